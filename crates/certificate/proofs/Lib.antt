@@ -1,0 +1,5 @@
+pub mod Firsts
+pub mod Rules
+pub mod Judged
+pub mod Least
+pub mod Finding

@@ -1,0 +1,5 @@
+pub mod Frames
+pub mod Offsets
+pub mod Meanings
+pub mod Questions
+pub mod Spelling

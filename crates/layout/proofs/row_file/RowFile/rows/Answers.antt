@@ -1,0 +1,8 @@
+use Rattle.std.specs.Of.Vec.{vec-items}
+use Rattle.layout.proofs.Meanings.{rows-read}
+use Rattle.layout.proofs.row_file.RowFile.rows.Needs as need
+
+pub returns : need.returns
+returns c =
+    let file = c .args .self .now in
+    rows-read (vec-items (file .bytes)) (file .header) (file .read)

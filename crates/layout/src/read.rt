@@ -1,0 +1,102 @@
+// Reading a header: numbers 1 to 7.
+ghost use Prim.Native.Nat.{ℕ, _+_, _*_, _≤_, _<_};
+ghost use mathlib.Core.Path.{_≡_};
+ghost use lib.ListN.{length};
+ghost use Rattle.certificate.specs.Rules.{judged, judge-all};
+ghost use Rattle.layout.specs.Layout.{header-read, range-rules, body-length};
+ghost use Rattle.layout.specs.Layout.{range-rule};
+use crate::header::Header;
+use certificate::fault::Fault;
+
+const SHORT: u8 = 1;
+
+const BINS: u8 = 2;
+
+const CAPACITY: u8 = 3;
+
+const TARGET: u8 = 4;
+
+const CLASSES: u8 = 5;
+
+const ROWS: u8 = 6;
+
+const LENGTH: u8 = 7;
+
+const LEAST_BINS: usize = 2;
+
+const MOST_BINS: usize = 8;
+
+const MOST_CAPACITY: usize = 127;
+
+const MOST_CLASSES: usize = 32;
+
+const MOST_ROWS: usize = 65535;
+
+// A value from `low` to `high`, or the fault of that number.
+fn within(number: u8, value: usize, low: usize, high: usize) -> Result<(), Fault>
+    ensures { λ r. ⌜ r ≡ judged (range-rule number low high value) ⌝ }
+{
+    if value < low || value > high {
+        return Err(Fault {
+            number,
+            first: 0,
+            second: 0,
+        });
+    }
+    Ok(())
+}
+
+// The header keeps its ranges.
+fn in_ranges(header: &Header) -> Result<(), Fault>
+    requires { ⌜ now header .capacity < 256 ⌝ }
+    ensures { λ r. ⌜ r ≡ judge-all (range-rules (now (header .entry))) ⌝ }
+{
+    within(BINS, header.bins, LEAST_BINS, MOST_BINS)?;
+    within(CAPACITY, header.capacity, 1, MOST_CAPACITY)?;
+    within(
+        TARGET,
+        header.target,
+        header.capacity + 1,
+        2 * header.capacity,
+    )?;
+    within(CLASSES, header.classes, 1, MOST_CLASSES)?;
+    within(ROWS, header.rows, 1, MOST_ROWS)
+}
+
+// The header of a file whose length is right.
+pub fn read_header(file: &[u8]) -> Result<Header, Fault>
+    ensures { λ r. ⌜ r ≡ header-read (now (file .entry)) ⌝ }
+{
+    let [
+        bins,
+        capacity,
+        target,
+        classes,
+        rows_high,
+        rows_low,
+        body @ ..,
+    ] = file
+    else {
+        return Err(Fault {
+            number: SHORT,
+            first: 0,
+            second: 0,
+        });
+    };
+    let header = Header {
+        bins: *bins as usize,
+        capacity: *capacity as usize,
+        target: *target as usize,
+        classes: *classes as usize,
+        rows: 256 * *rows_high as usize + *rows_low as usize,
+    };
+    in_ranges(&header)?;
+    if body.len() != header.body_length() {
+        return Err(Fault {
+            number: LENGTH,
+            first: 0,
+            second: 0,
+        });
+    }
+    Ok(header)
+}

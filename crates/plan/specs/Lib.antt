@@ -1,0 +1,4 @@
+pub mod Positions
+pub mod Plan
+pub mod Winning
+pub mod Bound

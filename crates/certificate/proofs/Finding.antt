@@ -3,10 +3,11 @@ use Prim.Native.Nat.{ℕ, _<_}
 use native.Mathlib.Omega.{arith}
 use mathlib.Core.Path.{_≡_, refl, sym, subst, _∙_}
 use mathlib.Core.Logic.{inl, inr}
-use mathlib.Core.Bool.{true, false}
-use mathlib.Core.List.{List, [], _∷_}
+use mathlib.Core.Bool.{Bool, true, false, _&&_}
+use mathlib.Core.List.{List, [], _∷_, _++_}
 use lib.Dec.{eqb}
-use Rattle.std.specs.Options.{isSome}
+use lib.ListN.{length}
+use Rattle.std.specs.Options.{isSome, Cases}
 use Rattle.std.specs.declared.option.Option.{Option}
 use Rattle.std.specs.declared.option.Option.the-variants.{Some, None}
 use Rattle.std.proofs.shelf.Tests.{and-parts, and-from, eqb-true, eq-eqb, cases-bool, both-ways}
@@ -96,3 +97,19 @@ module _ (c : Certificate) (loads counts : List ℕ) where
   -- a row has the position: some row is found
   pub found-from-row : (i : ℕ) → Stands c loads counts i → isSome (find-row c loads counts) ≡ true
   found-from-row i h = is-found i h (find-row c loads counts) refl
+
+-- an answer that equals the definition is a row that has the position, or none where no row has it
+pub found-says : (c : Certificate) (loads counts : List ℕ) (r : Option ℕ) → r ≡ find-row c loads counts → Cases r ((i : ℕ) → Stands c loads counts i → ⊥) (Stands c loads counts)
+found-says c loads counts None e = none-stands c loads counts (sym e)
+found-says c loads counts (Some i) e = found-stands c loads counts i (sym e)
+
+-- lists in two parts are the same where both parts are
+pub same-append : (xs ys us vs : List ℕ) → length xs ≡ length ys → same (xs ++ us) (ys ++ vs) ≡ (same xs ys && same us vs)
+same-append [] [] us vs e = refl
+same-append [] (y ∷ ys) us vs e = absurd (omega arith)
+same-append (x ∷ xs) [] us vs e = absurd (omega arith)
+same-append (x ∷ xs) (y ∷ ys) us vs e = step (eqb x y) (same-append xs ys us vs (omega arith))
+  where
+  step : (b : Bool) → same (xs ++ us) (ys ++ vs) ≡ (same xs ys && same us vs) → (b && same (xs ++ us) (ys ++ vs)) ≡ ((b && same xs ys) && same us vs)
+  step true h = h
+  step false h = refl

@@ -58,3 +58,8 @@ module _ (test : ℕ → Bool) where
   -- i is found: it passes, and no number below it does
   pub some-least : (n i : ℕ) → first test n ≡ Some i → Least-at n i
   some-least n i e = subst (λ o. Cases o (Quiet n) (Least-at n)) e (first-says n)
+
+-- tests that agree below n find the same number
+pub first-like : (f g : ℕ → Bool) (n : ℕ) → ((k : ℕ) → k < n → f k ≡ g k) → first f n ≡ first g n
+first-like f g zero h = refl
+first-like f g (suc n) h = λ t. or-here (first-like f g n (λ k l. h k (omega arith)) t) (h n (omega arith) t) n

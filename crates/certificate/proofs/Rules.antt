@@ -29,7 +29,8 @@ pub judged-whole : (n : ℕ) (b : Bool) → judged (whole n b) ≡ cond b (Err (
 judged-whole n true = refl
 judged-whole n false = refl
 
-next-after-assoc : {X : Type 0} (a b : Result (Unit {0}) Fault) (d : Result X Fault) → next-after (next-after a b) d ≡ next-after a (next-after b d)
+-- three judgements in turn
+pub next-after-assoc : {X : Type 0} (a b : Result (Unit {0}) Fault) (d : Result X Fault) → next-after (next-after a b) d ≡ next-after a (next-after b d)
 next-after-assoc (Ok u) b d = refl
 next-after-assoc (Err f) b d = refl
 

@@ -3,3 +3,4 @@ pub mod Offsets
 pub mod Meanings
 pub mod Questions
 pub mod Spelling
+pub mod Opening

@@ -1,10 +1,8 @@
 // What the rows of a file hold: numbers 8 to 10.
-ghost use Prim.Native.Nat.{ℕ, _<_};
 ghost use mathlib.Core.Path.{_≡_};
-ghost use Rattle.std.specs.Of.Vec.{vec-items};
 ghost use Rattle.certificate.specs.Rules.{judge-all};
 ghost use Rattle.certificate.specs.Contents.{sizes-rule, loads-rule, offers-rule, contents-rules};
-ghost use Rattle.layout.specs.Layout.{certificate-of};
+ghost use Rattle.layout.specs.RowFiles.{meant};
 use crate::row_file::RowFile;
 use certificate::fault::Fault;
 use certificate::rule::RuleOf;
@@ -21,7 +19,7 @@ const OFFER: u8 = 10;
 pub struct SizesAscend;
 
 pub impl RuleOf<RowFile> for SizesAscend as SizesAscendRule {
-    ghost rule = { λ f. sizes-rule (certificate-of (vec-items (f .bytes))) };
+    ghost rule = { λ f. sizes-rule (meant f) };
 
     fn number(&self) -> u8 {
         SIZE
@@ -51,7 +49,7 @@ pub impl RuleOf<RowFile> for SizesAscend as SizesAscendRule {
 pub struct LoadsBelowTarget;
 
 pub impl RuleOf<RowFile> for LoadsBelowTarget as LoadsBelowTargetRule {
-    ghost rule = { λ f. loads-rule (certificate-of (vec-items (f .bytes))) };
+    ghost rule = { λ f. loads-rule (meant f) };
 
     fn number(&self) -> u8 {
         LOAD
@@ -75,7 +73,7 @@ pub impl RuleOf<RowFile> for LoadsBelowTarget as LoadsBelowTargetRule {
 pub struct OffersKnown;
 
 pub impl RuleOf<RowFile> for OffersKnown as OffersKnownRule {
-    ghost rule = { λ f. offers-rule (certificate-of (vec-items (f .bytes))) };
+    ghost rule = { λ f. offers-rule (meant f) };
 
     fn number(&self) -> u8 {
         OFFER
@@ -96,7 +94,7 @@ pub impl RuleOf<RowFile> for OffersKnown as OffersKnownRule {
 
 // Numbers 8 to 10, each over the whole file.
 pub fn contents_hold(file: &RowFile) -> Result<(), Fault>
-    ensures { λ r. ⌜ r ≡ judge-all (contents-rules (certificate-of (vec-items (now (file .entry) .bytes)))) ⌝ }
+    ensures { λ r. ⌜ r ≡ judge-all (contents-rules (meant (now (file .entry)))) ⌝ }
 {
     judge(&SizesAscend, file)?;
     judge(&LoadsBelowTarget, file)?;

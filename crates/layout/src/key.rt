@@ -35,6 +35,13 @@ impl PositionKey {
         }
     }
 
+    // The bytes.
+    pub fn as_bytes(&self) -> &[u8]
+        ensures { λ r. ⌜ now r ≡ take (now (self .entry) .length) (now (self .entry) .bytes) ⌝ }
+    {
+        &self.bytes[0..self.length]
+    }
+
     // Adds numbers, as far as there is room and each is a byte; whether all were added.
     fn append(&mut self, numbers: &[u32]) -> bool
         ensures { λ r. ⌜ When r (Appended (now (self .entry) .length) (now (self .entry) .bytes) (now (numbers .entry)) (now (self .exit) .length) (now (self .exit) .bytes)) (No-room (now (self .entry) .length) (now (numbers .entry))) ⌝ }

@@ -3,8 +3,8 @@ ghost use Prim.Native.Nat.{ℕ, _+_, _*_, _≤_, _<_};
 ghost use mathlib.Core.Path.{_≡_};
 ghost use lib.ListN.{length};
 ghost use Rattle.certificate.specs.Rules.{judged, judge-all};
-ghost use Rattle.layout.specs.Layout.{header-read, range-rules, body-length};
-ghost use Rattle.layout.specs.Layout.{range-rule};
+ghost use Rattle.certificate.specs.Lawful.{most-count};
+ghost use Rattle.layout.specs.Layout.{byte, header-read, range-rule, range-rules};
 use crate::header::Header;
 use certificate::fault::Fault;
 
@@ -65,7 +65,8 @@ fn in_ranges(header: &Header) -> Result<(), Fault>
 
 // The header of a file whose length is right.
 pub fn read_header(file: &[u8]) -> Result<Header, Fault>
-    ensures { λ r. ⌜ r ≡ header-read (now (file .entry)) ⌝ }
+    ensures answer { λ r. ⌜ r ≡ header-read (now (file .entry)) ⌝ }
+    ensures bytes { λ _. ⌜ ((i : ℕ) → byte (now (file .entry)) i ≤ most-count) ⌝ }
 {
     let [
         bins,

@@ -5,6 +5,7 @@ ghost use Rattle.std.specs.Of.Vec.{vec-items, vec-len};
 ghost use Rattle.std.specs.Results.{Cases};
 ghost use Rattle.layout.specs.Layout.{header-of, header-length, position-length, answer-length, position-start, answer-start, packed-start, body-length, byte as byte-at, frame-rules, certificate-of};
 ghost use Rattle.certificate.specs.Certificates.{class-count, row-count, position as position-of, size-at, load-at, count-at, offered-at, packed-at};
+ghost use Rattle.certificate.specs.Lawful.{most-bins, most-capacity, most-classes, most-rows, most-count};
 ghost use Rattle.layout.specs.Opening.{told, opened};
 use crate::header::HEADER_LENGTH;
 use crate::header::Header;
@@ -17,11 +18,12 @@ pub struct RowFile {
     bytes: Vec<u8>,
     ghost read: { header ≡ header-of (vec-items bytes) },
     ghost long: { vec-len bytes ≡ header-length + body-length header },
-    ghost some_bins: { (2 ≤ header .bins) × (header .bins ≤ 8) },
-    ghost some_capacity: { (1 ≤ header .capacity) × (header .capacity ≤ 127) },
+    ghost some_bins: { (2 ≤ header .bins) × (header .bins ≤ most-bins) },
+    ghost some_capacity: { (1 ≤ header .capacity) × (header .capacity ≤ most-capacity) },
     ghost target_range: { (header .capacity + 1 ≤ header .target) × (header .target ≤ 2 * header .capacity) },
-    ghost some_classes: { (1 ≤ header .classes) × (header .classes ≤ 32) },
-    ghost some_rows: { (1 ≤ header .rows) × (header .rows ≤ 65535) },
+    ghost some_classes: { (1 ≤ header .classes) × (header .classes ≤ most-classes) },
+    ghost some_rows: { (1 ≤ header .rows) × (header .rows ≤ most-rows) },
+    ghost small: { (i : ℕ) → byte-at (vec-items bytes) i ≤ most-count },
 }
 
 impl RowFile {

@@ -43,3 +43,10 @@ pub fn search<T: OrderedRows>(table: &T, sought: &T::Key) -> Option<usize>
     }
     None
 }
+
+// How two byte strings stand to each other.
+pub fn standing_of(a: &[u8], b: &[u8]) -> Ordering
+    ensures { λ r. ⌜ r ≡ standing (now (a .entry)) (now (b .entry)) ⌝ }
+{
+    a.cmp(&b)
+}

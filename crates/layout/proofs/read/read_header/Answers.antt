@@ -10,4 +10,4 @@ pub returns-then-body-body-length : need.returns-then-body-body-length
 returns-then-body-body-length c =
     let file = c .args .file .now in
     let long : 6 ≤ length file = omega (arith, ltb-false) in
-    sym (wrong-length file long (sym (c .in-ranges .ensures) ∙ c .in-Continue-in-ranges .was tt) (λ e. c .if-body-body-length .taken (e ∙ sym (c .body-length .ensures))))
+    record { answer = sym (wrong-length file long (sym (c .in-ranges .ensures) ∙ c .in-Continue-in-ranges .was tt) (λ e. c .if-body-body-length .taken (e ∙ sym (c .body-length .ensures)))); bytes = λ i. omega (arith, c .typed .file i) }

@@ -1,0 +1,4 @@
+pub mod Opens
+pub mod Laws
+pub mod Finds
+pub mod Tables

@@ -110,6 +110,6 @@ same-append [] (y ∷ ys) us vs e = absurd (omega arith)
 same-append (x ∷ xs) [] us vs e = absurd (omega arith)
 same-append (x ∷ xs) (y ∷ ys) us vs e = step (eqb x y) (same-append xs ys us vs (omega arith))
   where
-  step : (b : Bool) → same (xs ++ us) (ys ++ vs) ≡ (same xs ys && same us vs) → (b && same (xs ++ us) (ys ++ vs)) ≡ ((b && same xs ys) && same us vs)
-  step true h = h
-  step false h = refl
+    step : (b : Bool) → same (xs ++ us) (ys ++ vs) ≡ (same xs ys && same us vs) → (b && same (xs ++ us) (ys ++ vs)) ≡ ((b && same xs ys) && same us vs)
+    step true h = h
+    step false h = refl

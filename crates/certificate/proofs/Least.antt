@@ -89,3 +89,8 @@ judges n [] e = λ f b. b
 judges n (r ∷ rs) e =
     let p = and-parts (ltb n (r .number)) (rising (r .number) rs) e in
     more r rs (p .1) (judged r) (judge-all rs) (judged-says r) (judges (r .number) rs (p .1))
+
+-- what is answered where nothing is broken does not change what a judgement says
+pub judges-after : {X : Type 0} (rs : List Rule) (a : Result (Unit {0}) Fault) (x : X) → Judges rs a → Judges rs (next-after a (Ok x))
+judges-after rs (Ok u) x h = h
+judges-after rs (Err f) x h = h

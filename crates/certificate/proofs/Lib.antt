@@ -3,3 +3,4 @@ pub mod Rules
 pub mod Judged
 pub mod Least
 pub mod Finding
+pub mod Appending

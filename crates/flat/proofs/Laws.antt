@@ -101,9 +101,9 @@ module _ (file : List ℕ) (bytes : (i : ℕ) → byte file i ≤ most-count) wh
   packed-small i j k =
       elim (cases-lt i (header-of file .rows)) [
         | inl l ↦ elim (cases-lt j (header-of file .bins)) [
-            | inl b ↦ subst (λ xs. getD xs k 0 ≤ most-count) (sym (packed-list file i l j b)) (part-small (packed-start (header-of file) i j) (header-of file .classes) k)
-            | inr h ↦ subst (λ (r : Row). getD (getD (r .witness) j []) k 0 ≤ most-count) (sym (row-is file i l)) (subst (λ xs. getD xs k 0 ≤ most-count) (sym (getD-past (row-of file i .witness) j [] (let e = length-map-counting (packed-of file i) 0 (header-of file .bins) in omega arith))) (omega arith))
-          ]
+          | inl b ↦ subst (λ xs. getD xs k 0 ≤ most-count) (sym (packed-list file i l j b)) (part-small (packed-start (header-of file) i j) (header-of file .classes) k)
+          | inr h ↦ subst (λ (r : Row). getD (getD (r .witness) j []) k 0 ≤ most-count) (sym (row-is file i l)) (subst (λ xs. getD xs k 0 ≤ most-count) (sym (getD-past (row-of file i .witness) j [] (let e = length-map-counting (packed-of file i) 0 (header-of file .bins) in omega arith))) (omega arith))
+        ]
         | inr h ↦ subst (λ (r : Row). getD (getD (r .witness) j []) k 0 ≤ most-count) (sym (missing-row i h)) (omega arith)
       ]
 

@@ -21,7 +21,10 @@ impl FlatTable {
         let file = RowFile::open(bytes)?;
         match rows_hold(&file) {
             Ok(()) => Ok(FlatTable { file }),
-            Err(fault) => Err(Refused { fault, file: file.into_bytes() }),
+            Err(fault) => Err(Refused {
+                fault,
+                file: file.into_bytes(),
+            }),
         }
     }
 }

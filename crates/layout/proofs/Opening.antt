@@ -11,7 +11,7 @@ use Rattle.certificate.specs.Rules.{Rule, judge-all, next-after}
 use Rattle.certificate.specs.Certificates.{Certificate}
 use Rattle.certificate.specs.Least.{Judges, rising}
 use Rattle.certificate.proofs.Rules.{judge-append, next-after-assoc, next-after-ok}
-use Rattle.certificate.proofs.Least.{judges}
+use Rattle.certificate.proofs.Least.{judges, judges-after}
 use Rattle.layout.specs.Layout.{certificate-of}
 use Rattle.layout.specs.Opening.{opened}
 
@@ -31,10 +31,6 @@ opened-first rs ss file f e = opened-append rs ss file ∙ stopped (judge-all rs
 pub opened-second : (rs ss : List Rule) (file : List ℕ) (c : Certificate) → opened rs file ≡ Ok c → opened (rs ++ ss) file ≡ opened ss file
 opened-second rs ss file c e = opened-append rs ss file ∙ ap (λ a. next-after a (opened ss file)) (next-after-ok (judge-all rs) (Ok (certificate-of file)) c e .0)
 
-judged-too : {X : Type 0} (rs : List Rule) (a : Result (Unit {0}) Fault) (x : X) → Judges rs a → Judges rs (next-after a (Ok x))
-judged-too rs (Ok u) x h = h
-judged-too rs (Err f) x h = h
-
 -- what is told of a file is the least fault of rules with rising numbers
 pub opened-least : (n : ℕ) (rs : List Rule) (file : List ℕ) → rising n rs ≡ true → Judges rs (opened rs file)
-opened-least n rs file e = judged-too rs (judge-all rs) (certificate-of file) (judges n rs e)
+opened-least n rs file e = judges-after rs (judge-all rs) (certificate-of file) (judges n rs e)

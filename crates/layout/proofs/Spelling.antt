@@ -1,23 +1,12 @@
--- Spelling a position as bytes, number by number.
+-- Positions that have no bytes.
 use Prim.Native.Nat.{ℕ, _+_, _<_, _≤_}
 use native.Mathlib.Omega.{arith}
-use mathlib.Core.Path.{_≡_, refl, sym, ap, subst, _∙_}
+use mathlib.Core.Path.{_≡_, sym, subst}
 use mathlib.Core.Logic.{_⊎_, inl, inr}
-use mathlib.Core.List.{List, [], _∷_, _++_}
-use lib.ListN.{length, getD, set, take}
-use Rattle.std.proofs.shelf.Lists.{append-assoc, take-more, take-more-set, take-all, length-append, getD-append-left, getD-append-add}
+use mathlib.Core.List.{List, _++_}
+use lib.ListN.{length, getD}
+use Rattle.std.proofs.shelf.Lists.{length-append, getD-append-left, getD-append-add}
 use Rattle.layout.specs.Keys.{Above-byte, No-room, Unspelled}
-
--- one number more
-pub one-more : (start bytes numbers : List ℕ) (n i : ℕ) → n < length bytes → i < length numbers → take n bytes ≡ start ++ take i numbers → take (n + 1) (set bytes n (getD numbers i 0)) ≡ start ++ take (i + 1) numbers
-one-more start bytes numbers n i l h e =
-    take-more-set bytes n (getD numbers i 0) l
-    ∙ (ap (λ xs. xs ++ (getD numbers i 0 ∷ [])) e
-    ∙ (append-assoc start (take i numbers) (getD numbers i 0 ∷ []) ∙ ap (λ xs. start ++ xs) (sym (take-more numbers i 0 h))))
-
--- all numbers are added
-pub all-added : (start bytes numbers : List ℕ) (n i : ℕ) → length numbers ≤ i → take n bytes ≡ start ++ take i numbers → take n bytes ≡ start ++ numbers
-all-added start bytes numbers n i l e = e ∙ ap (λ xs. start ++ xs) (take-all i numbers l)
 
 -- the first part has no bytes
 pub unspelled-left : (xs ys : List ℕ) → No-room 0 xs → Unspelled (xs ++ ys)

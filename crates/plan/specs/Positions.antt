@@ -1,9 +1,9 @@
 -- The empty position, and the position that follows when the offered item is placed.
-use Prim.Native.Nat.{ℕ, zero, suc, _+_}
+use Prim.Native.Nat.{ℕ, zero, suc, _+_, _≤_, _<_}
 use mathlib.Core.Bool.{cond}
 use mathlib.Core.List.{List, [], _∷_}
 use lib.Dec.{ltb}
-use lib.ListN.{getD, set, replicate}
+use lib.ListN.{length, getD, set, replicate}
 use Rattle.certificate.specs.Certificates.{Certificate, class-count, row, size, offered}
 
 -- all loads and counts are 0
@@ -35,3 +35,7 @@ next-counts counts k = set counts k (getD counts k 0 + 1)
 -- the size of the item that row i offers
 abbrev pub offer : Certificate → ℕ → ℕ
 offer c i = size c (offered c i)
+
+-- p is the place of the first number below x, or the length where there is none
+abbrev pub Place-of : ℕ → List ℕ → ℕ → Type 0
+Place-of x xs p = (p ≤ length xs) × ((k : ℕ) → k < p → x ≤ getD xs k 0) × (p < length xs → getD xs p 0 < x)

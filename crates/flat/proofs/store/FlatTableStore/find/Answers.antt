@@ -15,8 +15,9 @@ returns-then-loads-bins c =
     let loads = c .args .loads .now in
     let counts = c .args .counts .now in
     let shape : (length loads ≡ table-meant table .bins) × (length counts ≡ class-count (table-meant table)) → ⊥ = elim (c .then-loads-bins .came) [
-      then-loads-bins·by·then-loads-bins w ↦ (λ p. w .if-loads-bins .taken (p .0 ∙ sym (c .bins .ensures)))
-    | then-loads-bins·by·else-loads-bins·then-counts-classes w ↦ (λ p. w .if-counts-classes .taken (p .1 ∙ sym (w .classes .ensures))) ] in
+      | then-loads-bins·by·then-loads-bins w ↦ (λ p. w .if-loads-bins .taken (p .0 ∙ sym (c .bins .ensures)))
+      | then-loads-bins·by·else-loads-bins·then-counts-classes w ↦ (λ p. w .if-counts-classes .taken (p .1 ∙ sym (w .classes .ensures)))
+    ] in
     let a = other-shape (table-meant table) (table-lawful table) loads counts shape in
     record { answer = a; found = found-says (table-meant table) loads counts None a }
 

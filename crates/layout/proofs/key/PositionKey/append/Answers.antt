@@ -1,16 +1,21 @@
 use native.Mathlib.Omega.{arith}
-use lib.ListN.{take}
-use Rattle.layout.proofs.Spelling.{one-more, all-added}
+use mathlib.Core.Path.{_∙_}
+use lib.ListN.{getD, take}
+use Rattle.std.proofs.shelf.Lists.{take-more-set}
+use Rattle.certificate.proofs.Appending.{append-more, append-all}
 use Rattle.layout.proofs.key.PositionKey.append.Needs as need
 
 pub loop-number-again : need.loop-number-again
 loop-number-again c =
     let key = c .loop-number .self in
     let start = c .args .self .now in
-    (omega arith, one-more (take (start .length) (start .bytes)) (key .bytes) (c .args .numbers .now) (key .length) (c .loop-number .number-index) (omega arith) (omega arith) (c .loop-number .inv .1))
+    let numbers = c .args .numbers .now in
+    let i = c .loop-number .number-index in
+    let so-far = take (key .length) (key .bytes) in
+    (omega arith, take-more-set (key .bytes) (key .length) (getD numbers i 0) (omega arith) ∙ append-more (take (start .length) (start .bytes)) numbers i so-far (c .loop-number .inv .1) (omega arith))
 
 pub returns : need.returns
 returns c =
     let key = c .loop-number .self in
     let start = c .args .self .now in
-    (omega arith, all-added (take (start .length) (start .bytes)) (key .bytes) (c .args .numbers .now) (key .length) (c .loop-number .number-index) (omega arith) (c .loop-number .inv .1))
+    (omega arith, append-all (take (start .length) (start .bytes)) (c .args .numbers .now) (c .loop-number .number-index) (take (key .length) (key .bytes)) (c .loop-number .inv .1) (omega arith))

@@ -1,7 +1,7 @@
 -- Opening a file by one list of rules after another.
 use Prim.Native.Nat.{ℕ}
 use native.Mathlib.Omega.{arith}
-use mathlib.Core.Path.{_≡_, refl, ap, _∙_}
+use mathlib.Core.Path.{_≡_, refl, sym, ap, _∙_}
 use mathlib.Core.Bool.{true}
 use mathlib.Core.List.{List, _++_}
 use Rattle.std.specs.declared.result.Result.{Result}
@@ -34,3 +34,7 @@ opened-second rs ss file c e = opened-append rs ss file ∙ ap (λ a. next-after
 -- what is told of a file is the least fault of rules with rising numbers
 pub opened-least : (n : ℕ) (rs : List Rule) (file : List ℕ) → rising n rs ≡ true → Judges rs (opened rs file)
 opened-least n rs file e = judges-after rs (judge-all rs) (certificate-of file) (judges n rs e)
+
+-- what an opened file means is what its bytes say
+pub opened-means : (rs : List Rule) (file : List ℕ) (c : Certificate) → Ok c ≡ opened rs file → c ≡ certificate-of file
+opened-means rs file c e = let p = next-after-ok (judge-all rs) (Ok (certificate-of file)) c (sym e) .1 in cc

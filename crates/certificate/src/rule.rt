@@ -2,20 +2,23 @@
 ghost use Prim.Native.Nat.{ℕ, _<_};
 ghost use mathlib.Core.Path.{_≡_};
 ghost use Rattle.certificate.specs.Rules.{Rule, judged, first};
+ghost use Rattle.certificate.specs.Scopes.{scope-of};
 use crate::fault::Fault;
+
+// A rule's number, how many rows it is tried on, and how many places of each row.
+#[derive(Clone, Copy, PartialEq, Eq, Debug)]
+pub struct Scope {
+    pub number: u8,
+    pub rows: usize,
+    pub places: usize,
+}
 
 // A rule of subjects `S`: where it is tried, and what breaks it.
 pub trait RuleOf<S> {
     ghost rule: { S → Rule };
 
-    fn number(&self) -> u8
-        ensures { λ r. ⌜ ((s : S) → r ≡ rule s .number) ⌝ };
-
-    fn rows(&self, subject: &S) -> usize
-        ensures { λ r. ⌜ r ≡ rule (now (subject .entry)) .rows ⌝ };
-
-    fn places(&self, subject: &S) -> usize
-        ensures { λ r. ⌜ r ≡ rule (now (subject .entry)) .places ⌝ };
+    fn scope(&self, subject: &S) -> Scope
+        ensures { λ r. ⌜ r ≡ scope-of (rule (now (subject .entry))) ⌝ };
 
     fn is_broken(&self, subject: &S, row: usize, place: usize) -> bool
         requires { ⌜ row < rule (now subject) .rows ⌝ ∗ ⌜ place < rule (now subject) .places ⌝ }
@@ -23,11 +26,11 @@ pub trait RuleOf<S> {
 }
 
 // The first place of a row that breaks the rule.
-fn first_in_row<S, R: RuleOf<S>>(rule: &R, subject: &S, row: usize) -> Option<usize>
-    requires { ⌜ row < R·RuleOf .rule (now subject) .rows ⌝ }
-    ensures { λ r. ⌜ r ≡ first (R·RuleOf .rule (now (subject .entry)) .broken row) (R·RuleOf .rule (now (subject .entry)) .places) ⌝ }
+fn first_in_row<S, R: RuleOf<S>>(rule: &R, subject: &S, row: usize, places: usize) -> Option<usize>
+    requires { ⌜ row < R·RuleOf .rule (now subject) .rows ⌝ ∗ ⌜ places ≡ R·RuleOf .rule (now subject) .places ⌝ }
+    ensures { λ r. ⌜ r ≡ first (R·RuleOf .rule (now (subject .entry)) .broken row) places ⌝ }
 {
-    for place in 0..rule.places(subject) {
+    for place in 0..places {
         if rule.is_broken(subject, row, place) {
             return Some(place);
         }
@@ -39,11 +42,11 @@ fn first_in_row<S, R: RuleOf<S>>(rule: &R, subject: &S, row: usize) -> Option<us
 pub fn judge<S, R: RuleOf<S>>(rule: &R, subject: &S) -> Result<(), Fault>
     ensures { λ r. ⌜ r ≡ judged (R·RuleOf .rule (now (subject .entry))) ⌝ }
 {
-    for row in 0..rule.rows(subject) {
-        if let Some(place) = first_in_row(rule, subject, row) {
-            let number = rule.number();
+    let scope = rule.scope(subject);
+    for row in 0..scope.rows {
+        if let Some(place) = first_in_row(rule, subject, row, scope.places) {
             return Err(Fault {
-                number,
+                number: scope.number,
                 first: row,
                 second: place,
             });

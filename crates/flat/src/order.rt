@@ -5,6 +5,7 @@ ghost use Rattle.layout.specs.RowFiles.{meant};
 ghost use Rattle.flat.specs.Flat.{ascends-rule, table-rules};
 use certificate::fault::Fault;
 use certificate::rule::RuleOf;
+use certificate::rule::Scope;
 use certificate::rule::judge;
 use layout::contents::contents_hold;
 use layout::row_file::RowFile;
@@ -20,16 +21,12 @@ pub struct PositionsAscend;
 pub impl RuleOf<RowFile> for PositionsAscend as PositionsAscendRule {
     ghost rule = { λ f. ascends-rule (meant f) };
 
-    fn number(&self) -> u8 {
-        ORDER
-    }
-
-    fn rows(&self, file: &RowFile) -> usize {
-        file.rows()
-    }
-
-    fn places(&self, _file: &RowFile) -> usize {
-        1
+    fn scope(&self, file: &RowFile) -> Scope {
+        Scope {
+            number: ORDER,
+            rows: file.rows(),
+            places: 1,
+        }
     }
 
     fn is_broken(&self, file: &RowFile, row: usize, _place: usize) -> bool {

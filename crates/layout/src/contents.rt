@@ -6,6 +6,7 @@ ghost use Rattle.layout.specs.RowFiles.{meant};
 use crate::row_file::RowFile;
 use certificate::fault::Fault;
 use certificate::rule::RuleOf;
+use certificate::rule::Scope;
 use certificate::rule::judge;
 
 const SIZE: u8 = 8;
@@ -21,16 +22,12 @@ pub struct SizesAscend;
 pub impl RuleOf<RowFile> for SizesAscend as SizesAscendRule {
     ghost rule = { λ f. sizes-rule (meant f) };
 
-    fn number(&self) -> u8 {
-        SIZE
-    }
-
-    fn rows(&self, file: &RowFile) -> usize {
-        file.classes()
-    }
-
-    fn places(&self, _file: &RowFile) -> usize {
-        1
+    fn scope(&self, file: &RowFile) -> Scope {
+        Scope {
+            number: SIZE,
+            rows: file.classes(),
+            places: 1,
+        }
     }
 
     fn is_broken(&self, file: &RowFile, class: usize, _place: usize) -> bool {
@@ -51,16 +48,12 @@ pub struct LoadsBelowTarget;
 pub impl RuleOf<RowFile> for LoadsBelowTarget as LoadsBelowTargetRule {
     ghost rule = { λ f. loads-rule (meant f) };
 
-    fn number(&self) -> u8 {
-        LOAD
-    }
-
-    fn rows(&self, file: &RowFile) -> usize {
-        file.rows()
-    }
-
-    fn places(&self, file: &RowFile) -> usize {
-        file.bins()
+    fn scope(&self, file: &RowFile) -> Scope {
+        Scope {
+            number: LOAD,
+            rows: file.rows(),
+            places: file.bins(),
+        }
     }
 
     fn is_broken(&self, file: &RowFile, row: usize, bin: usize) -> bool {
@@ -75,16 +68,12 @@ pub struct OffersKnown;
 pub impl RuleOf<RowFile> for OffersKnown as OffersKnownRule {
     ghost rule = { λ f. offers-rule (meant f) };
 
-    fn number(&self) -> u8 {
-        OFFER
-    }
-
-    fn rows(&self, file: &RowFile) -> usize {
-        file.rows()
-    }
-
-    fn places(&self, _file: &RowFile) -> usize {
-        1
+    fn scope(&self, file: &RowFile) -> Scope {
+        Scope {
+            number: OFFER,
+            rows: file.rows(),
+            places: 1,
+        }
     }
 
     fn is_broken(&self, file: &RowFile, row: usize, _place: usize) -> bool {

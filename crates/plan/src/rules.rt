@@ -12,6 +12,7 @@ use crate::sums::sum_of_loads;
 use crate::sums::sum_packed;
 use crate::sums::sum_placed;
 use certificate::rule::RuleOf;
+use certificate::rule::Scope;
 use certificate::store::Store;
 
 const STARTS: u8 = 21;
@@ -33,16 +34,12 @@ pub struct Starts;
 pub impl<S: Store> RuleOf<S> for Starts as StartsRule {
     ghost rule = { λ s. starts-rule (S·Store .meaning s) };
 
-    fn number(&self) -> u8 {
-        STARTS
-    }
-
-    fn rows(&self, _store: &S) -> usize {
-        1
-    }
-
-    fn places(&self, _store: &S) -> usize {
-        1
+    fn scope(&self, _store: &S) -> Scope {
+        Scope {
+            number: STARTS,
+            rows: 1,
+            places: 1,
+        }
     }
 
     fn is_broken(&self, store: &S, _row: usize, _place: usize) -> bool {
@@ -60,16 +57,12 @@ pub struct Descends;
 pub impl<S: Store> RuleOf<S> for Descends as DescendsRule {
     ghost rule = { λ s. descends-rule (S·Store .meaning s) };
 
-    fn number(&self) -> u8 {
-        DESCENDS
-    }
-
-    fn rows(&self, store: &S) -> usize {
-        store.rows()
-    }
-
-    fn places(&self, store: &S) -> usize {
-        store.bins()
+    fn scope(&self, store: &S) -> Scope {
+        Scope {
+            number: DESCENDS,
+            rows: store.rows(),
+            places: store.bins(),
+        }
     }
 
     fn is_broken(&self, store: &S, row: usize, bin: usize) -> bool {
@@ -84,16 +77,12 @@ pub struct Accounts;
 pub impl<S: Store> RuleOf<S> for Accounts as AccountsRule {
     ghost rule = { λ s. accounts-rule (S·Store .meaning s) };
 
-    fn number(&self) -> u8 {
-        ACCOUNTS
-    }
-
-    fn rows(&self, store: &S) -> usize {
-        store.rows()
-    }
-
-    fn places(&self, _store: &S) -> usize {
-        1
+    fn scope(&self, store: &S) -> Scope {
+        Scope {
+            number: ACCOUNTS,
+            rows: store.rows(),
+            places: 1,
+        }
     }
 
     fn is_broken(&self, store: &S, row: usize, _place: usize) -> bool {
@@ -108,16 +97,12 @@ pub struct Packs;
 pub impl<S: Store> RuleOf<S> for Packs as PacksRule {
     ghost rule = { λ s. packs-rule (S·Store .meaning s) };
 
-    fn number(&self) -> u8 {
-        PACKS
-    }
-
-    fn rows(&self, store: &S) -> usize {
-        store.rows()
-    }
-
-    fn places(&self, store: &S) -> usize {
-        store.bins()
+    fn scope(&self, store: &S) -> Scope {
+        Scope {
+            number: PACKS,
+            rows: store.rows(),
+            places: store.bins(),
+        }
     }
 
     fn is_broken(&self, store: &S, row: usize, bin: usize) -> bool {
@@ -132,16 +117,12 @@ pub struct Shares;
 pub impl<S: Store> RuleOf<S> for Shares as SharesRule {
     ghost rule = { λ s. shares-rule (S·Store .meaning s) };
 
-    fn number(&self) -> u8 {
-        SHARES
-    }
-
-    fn rows(&self, store: &S) -> usize {
-        store.rows()
-    }
-
-    fn places(&self, store: &S) -> usize {
-        store.classes()
+    fn scope(&self, store: &S) -> Scope {
+        Scope {
+            number: SHARES,
+            rows: store.rows(),
+            places: store.classes(),
+        }
     }
 
     fn is_broken(&self, store: &S, row: usize, class: usize) -> bool {
@@ -157,16 +138,12 @@ pub struct GoesOn;
 pub impl<S: Store> RuleOf<S> for GoesOn as GoesOnRule {
     ghost rule = { λ s. goes-on-rule (S·Store .meaning s) };
 
-    fn number(&self) -> u8 {
-        GOES_ON
-    }
-
-    fn rows(&self, store: &S) -> usize {
-        store.rows()
-    }
-
-    fn places(&self, store: &S) -> usize {
-        store.bins()
+    fn scope(&self, store: &S) -> Scope {
+        Scope {
+            number: GOES_ON,
+            rows: store.rows(),
+            places: store.bins(),
+        }
     }
 
     fn is_broken(&self, store: &S, row: usize, bin: usize) -> bool {

@@ -11,29 +11,35 @@ use std::io::Read;
 // As much as is read of a file.
 const MOST: u64 = 65536;
 
-// The first 65,536 bytes of a file; a missing file is empty.
+// The first 65,536 bytes of a file.
 fn first_bytes(rt: &LibcRuntime, path: &str) -> io::Result<Vec<u8>>
     ensures { λ r. ⌜ made r (λ v. vec-len v ≤ 65536) ⌝ }
 {
     let mut bytes = Vec::new(rt.alloc());
-    match File::open(rt, path) {
-        Ok(file) => {
-            file.take(MOST).read_to_end(&mut bytes)?;
-            bytes.truncate(65536);
-            Ok(bytes)
-        }
+    let file = File::open(rt, path)?;
+    file.take(MOST).read_to_end(&mut bytes)?;
+    bytes.truncate(65536);
+    Ok(bytes)
+}
+
+// The same, where a file that is missing or cannot be read is empty; want of memory stays an error.
+fn bytes_or_none(rt: &LibcRuntime, path: &str) -> io::Result<Vec<u8>>
+    ensures { λ r. ⌜ made r (λ v. vec-len v ≤ 65536) ⌝ }
+{
+    match first_bytes(rt, path) {
+        Ok(bytes) => Ok(bytes),
         Err(error) => {
-            if error.kind() == ErrorKind::NotFound {
-                Ok(bytes)
-            } else {
+            if error.kind() == ErrorKind::OutOfMemory {
                 Err(error)
+            } else {
+                Ok(Vec::new(rt.alloc()))
             }
         }
     }
 }
 
 fn main(rt: LibcRuntime) -> io::Result<()> {
-    let certificate = first_bytes(&rt, "certificate.dat")?;
+    let certificate = bytes_or_none(&rt, "certificate.dat")?;
     let sheet = sheet_of(rt.alloc(), certificate)?;
     print!(rt, "{sheet}")
 }

@@ -7,10 +7,10 @@ ghost use Rattle.plan.specs.Bound.{Forces};
 ghost use Rattle.sheet.specs.Sheet.{judgement};
 use certificate::fault::Fault;
 use flat::FlatTable;
-use plan::check::check;
-use plan::verdict::Verdict;
 use flat::FlatTableStore;
 use layout::refused::FaultFromRefused;
+use plan::check::check;
+use plan::verdict::Verdict;
 
 // The verdict on a file, or the fault that opening or checking found.
 pub fn judge_file(file: Vec<u8>) -> Result<Verdict, Fault>

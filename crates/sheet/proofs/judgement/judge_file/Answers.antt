@@ -15,5 +15,5 @@ returns c =
     let means = opened-means (flat-rules file) file (table-meant (c .in-Continue-table .table)) (c .in-Continue-table .ensures tt .answer) in
     record {
       answer = c .check .ensures .answer ∙ ap checked (c .in-Continue-table .ensures tt .answer);
-      forces = subst (λ (m : Certificate). made (c .check .result) (λ _. Forces (m .bins) (m .capacity) (m .target))) means (c .check .ensures .forces)
+      forces = subst (λ (m : Certificate). made (c .check .result) (λ _. Forces (m .bins) (m .capacity) (m .target))) means (c .check .ensures .forces);
     }

@@ -13,6 +13,18 @@ pub struct Scope {
     pub places: usize,
 }
 
+impl Scope {
+    pub fn new(number: u8, rows: usize, places: usize) -> Scope
+        ensures { λ r. ⌜ r ≡ record { number = number; rows = rows; places = places } ⌝ }
+    {
+        Scope {
+            number,
+            rows,
+            places,
+        }
+    }
+}
+
 // A rule of subjects `S`: where it is tried, and what breaks it.
 pub trait RuleOf<S> {
     ghost rule: { S → Rule };

@@ -22,11 +22,7 @@ pub impl RuleOf<RowFile> for PositionsAscend as PositionsAscendRule {
     ghost rule = { λ f. ascends-rule (meant f) };
 
     fn scope(&self, file: &RowFile) -> Scope {
-        Scope {
-            number: ORDER,
-            rows: file.rows(),
-            places: 1,
-        }
+        Scope::new(ORDER, file.rows(), 1)
     }
 
     fn is_broken(&self, file: &RowFile, row: usize, _place: usize) -> bool {

@@ -25,7 +25,7 @@ pub impl OrderedRows for FlatTable as FlatTableRows {
     ghost key = { λ t i. position (table-meant t) i };
 
     fn len(&self) -> usize {
-        self.file.rows()
+        Store::rows(self)
     }
 
     fn compare(&self, row: usize, sought: &PositionKey) -> Ordering {
@@ -77,7 +77,7 @@ pub impl Store for FlatTable as FlatTableStore {
     }
 
     fn find(&self, loads: &[u32], counts: &[u32]) -> Option<usize> {
-        if loads.len() != self.file.bins() || counts.len() != self.file.classes() {
+        if loads.len() != self.bins() || counts.len() != self.classes() {
             return None;
         }
         let Some(key) = PositionKey::spell(loads, counts) else {

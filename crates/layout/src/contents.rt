@@ -23,11 +23,7 @@ pub impl RuleOf<RowFile> for SizesAscend as SizesAscendRule {
     ghost rule = { λ f. sizes-rule (meant f) };
 
     fn scope(&self, file: &RowFile) -> Scope {
-        Scope {
-            number: SIZE,
-            rows: file.classes(),
-            places: 1,
-        }
+        Scope::new(SIZE, file.classes(), 1)
     }
 
     fn is_broken(&self, file: &RowFile, class: usize, _place: usize) -> bool {
@@ -49,11 +45,7 @@ pub impl RuleOf<RowFile> for LoadsBelowTarget as LoadsBelowTargetRule {
     ghost rule = { λ f. loads-rule (meant f) };
 
     fn scope(&self, file: &RowFile) -> Scope {
-        Scope {
-            number: LOAD,
-            rows: file.rows(),
-            places: file.bins(),
-        }
+        Scope::new(LOAD, file.rows(), file.bins())
     }
 
     fn is_broken(&self, file: &RowFile, row: usize, bin: usize) -> bool {
@@ -69,11 +61,7 @@ pub impl RuleOf<RowFile> for OffersKnown as OffersKnownRule {
     ghost rule = { λ f. offers-rule (meant f) };
 
     fn scope(&self, file: &RowFile) -> Scope {
-        Scope {
-            number: OFFER,
-            rows: file.rows(),
-            places: 1,
-        }
+        Scope::new(OFFER, file.rows(), 1)
     }
 
     fn is_broken(&self, file: &RowFile, row: usize, _place: usize) -> bool {

@@ -9,35 +9,33 @@ pub const HEADER_LENGTH: usize = 6;
 // m, T, R, K and N.
 #[derive(Clone, Copy, PartialEq, Eq, Debug)]
 pub struct Header {
-    pub bins: usize,
-    pub capacity: usize,
-    pub target: usize,
-    pub classes: usize,
-    pub rows: usize,
+    pub bins: u8,
+    pub capacity: u16,
+    pub target: u16,
+    pub classes: u8,
+    pub rows: u16,
 }
 
 impl Header {
     // How many bytes a position takes: m loads and K counts.
-    pub(crate) fn position_length(&self) -> usize
-        requires { ⌜ now self .bins < 256 ⌝ ∗ ⌜ now self .classes < 256 ⌝ }
+    pub fn position_length(&self) -> usize
         ensures { λ r. ⌜ r ≡ position-length (now (self .entry)) ⌝ }
     {
-        self.bins + self.classes
+        self.bins as usize + self.classes as usize
     }
 
     // How many bytes an answer takes: the class offered, and K counts for each of m packing bins.
-    pub(crate) fn answer_length(&self) -> usize
-        requires { ⌜ now self .bins < 256 ⌝ ∗ ⌜ now self .classes < 256 ⌝ }
+    pub fn answer_length(&self) -> usize
         ensures { λ r. ⌜ r ≡ answer-length (now (self .entry)) ⌝ }
     {
-        1 + self.bins * self.classes
+        1 + self.bins as usize * self.classes as usize
     }
 
     // How many bytes follow the header: K sizes, N positions and N answers.
-    pub(crate) fn body_length(&self) -> usize
-        requires { ⌜ now self .bins < 256 ⌝ ∗ ⌜ now self .classes < 256 ⌝ ∗ ⌜ now self .rows < 65536 ⌝ }
+    pub fn body_length(&self) -> usize
         ensures { λ r. ⌜ r ≡ body-length (now (self .entry)) ⌝ }
     {
-        self.classes + (self.rows * self.position_length() + self.rows * self.answer_length())
+        let rows = self.rows as usize;
+        self.classes as usize + (rows * self.position_length() + rows * self.answer_length())
     }
 }

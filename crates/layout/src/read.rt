@@ -37,30 +37,21 @@ fn within(number: u8, value: usize, low: usize, high: usize) -> Result<(), Fault
     ensures { λ r. ⌜ r ≡ judged (range-rule number low high value) ⌝ }
 {
     if value < low || value > high {
-        return Err(Fault {
-            number,
-            first: 0,
-            second: 0,
-        });
+        return Err(Fault::of(number));
     }
     Ok(())
 }
 
 // The header keeps its ranges.
 fn in_ranges(header: &Header) -> Result<(), Fault>
-    requires { ⌜ now header .capacity < 256 ⌝ }
     ensures { λ r. ⌜ r ≡ judge-all (range-rules (now (header .entry))) ⌝ }
 {
-    within(BINS, header.bins, LEAST_BINS, MOST_BINS)?;
-    within(CAPACITY, header.capacity, 1, MOST_CAPACITY)?;
-    within(
-        TARGET,
-        header.target,
-        header.capacity + 1,
-        2 * header.capacity,
-    )?;
-    within(CLASSES, header.classes, 1, MOST_CLASSES)?;
-    within(ROWS, header.rows, 1, MOST_ROWS)
+    let capacity = header.capacity as usize;
+    within(BINS, header.bins as usize, LEAST_BINS, MOST_BINS)?;
+    within(CAPACITY, capacity, 1, MOST_CAPACITY)?;
+    within(TARGET, header.target as usize, capacity + 1, 2 * capacity)?;
+    within(CLASSES, header.classes as usize, 1, MOST_CLASSES)?;
+    within(ROWS, header.rows as usize, 1, MOST_ROWS)
 }
 
 // The header of a file whose length is right.
@@ -78,26 +69,18 @@ pub fn read_header(file: &[u8]) -> Result<Header, Fault>
         body @ ..,
     ] = file
     else {
-        return Err(Fault {
-            number: SHORT,
-            first: 0,
-            second: 0,
-        });
+        return Err(Fault::of(SHORT));
     };
     let header = Header {
-        bins: *bins as usize,
-        capacity: *capacity as usize,
-        target: *target as usize,
-        classes: *classes as usize,
-        rows: 256 * *rows_high as usize + *rows_low as usize,
+        bins: *bins,
+        capacity: *capacity as u16,
+        target: *target as u16,
+        classes: *classes,
+        rows: 256 * *rows_high as u16 + *rows_low as u16,
     };
     in_ranges(&header)?;
     if body.len() != header.body_length() {
-        return Err(Fault {
-            number: LENGTH,
-            first: 0,
-            second: 0,
-        });
+        return Err(Fault::of(LENGTH));
     }
     Ok(header)
 }

@@ -49,38 +49,38 @@ impl RowFile {
     pub fn bins(&self) -> usize
         ensures { λ r. ⌜ r ≡ certificate-of (vec-items (now (self .entry) .bytes)) .bins ⌝ }
     {
-        self.header.bins
+        usize::from(self.header.bins)
     }
 
     pub fn capacity(&self) -> u16
         ensures { λ r. ⌜ r ≡ certificate-of (vec-items (now (self .entry) .bytes)) .capacity ⌝ }
     {
-        self.header.capacity as u16
+        self.header.capacity
     }
 
     pub fn target(&self) -> u16
         ensures { λ r. ⌜ r ≡ certificate-of (vec-items (now (self .entry) .bytes)) .target ⌝ }
     {
-        self.header.target as u16
+        self.header.target
     }
 
     pub fn classes(&self) -> usize
         ensures { λ r. ⌜ r ≡ class-count (certificate-of (vec-items (now (self .entry) .bytes))) ⌝ }
     {
-        self.header.classes
+        usize::from(self.header.classes)
     }
 
     pub fn rows(&self) -> usize
         ensures { λ r. ⌜ r ≡ row-count (certificate-of (vec-items (now (self .entry) .bytes))) ⌝ }
     {
-        self.header.rows
+        usize::from(self.header.rows)
     }
 
     // The bytes of a row's position, none of a missing row.
     pub fn position(&self, row: usize) -> &[u8]
         ensures { λ r. ⌜ now r ≡ position-of (certificate-of (vec-items (now (self .entry) .bytes))) row ⌝ }
     {
-        if row >= self.header.rows {
+        if row >= self.header.rows as usize {
             return &[];
         }
         let start = self.position_start(row);
@@ -94,7 +94,7 @@ impl RowFile {
         ensures value { λ r. ⌜ r ≡ position-start (now (self .entry) .header) row ⌝ }
         ensures within { λ r. ⌜ r + position-length (now (self .entry) .header) ≤ vec-len (now (self .entry) .bytes) ⌝ }
     {
-        HEADER_LENGTH + self.header.classes + row * self.header.position_length()
+        HEADER_LENGTH + self.header.classes as usize + row * self.header.position_length()
     }
 
     // Where the answer of a row starts.
@@ -105,8 +105,8 @@ impl RowFile {
     {
         let header = self.header;
         HEADER_LENGTH
-            + header.classes
-            + header.rows * header.position_length()
+            + header.classes as usize
+            + header.rows as usize * header.position_length()
             + row * header.answer_length()
     }
 
@@ -116,7 +116,7 @@ impl RowFile {
         ensures value { λ r. ⌜ r ≡ packed-start (now (self .entry) .header) row bin ⌝ }
         ensures within { λ r. ⌜ r + now (self .entry) .header .classes ≤ vec-len (now (self .entry) .bytes) ⌝ }
     {
-        self.answer_start(row) + 1 + bin * self.header.classes
+        self.answer_start(row) + 1 + bin * self.header.classes as usize
     }
 
     fn byte(&self, at: usize) -> u16
@@ -130,7 +130,7 @@ impl RowFile {
     pub fn size(&self, class: usize) -> Option<u16>
         ensures { λ r. ⌜ r ≡ size-at (certificate-of (vec-items (now (self .entry) .bytes))) class ⌝ }
     {
-        if class >= self.header.classes {
+        if class >= self.header.classes as usize {
             return None;
         }
         Some(self.byte(HEADER_LENGTH + class))
@@ -139,7 +139,7 @@ impl RowFile {
     pub fn load(&self, row: usize, bin: usize) -> Option<u16>
         ensures { λ r. ⌜ r ≡ load-at (certificate-of (vec-items (now (self .entry) .bytes))) row bin ⌝ }
     {
-        if row >= self.header.rows || bin >= self.header.bins {
+        if row >= self.header.rows as usize || bin >= self.header.bins as usize {
             return None;
         }
         Some(self.byte(self.position_start(row) + bin))
@@ -148,16 +148,16 @@ impl RowFile {
     pub fn count(&self, row: usize, class: usize) -> Option<u16>
         ensures { λ r. ⌜ r ≡ count-at (certificate-of (vec-items (now (self .entry) .bytes))) row class ⌝ }
     {
-        if row >= self.header.rows || class >= self.header.classes {
+        if row >= self.header.rows as usize || class >= self.header.classes as usize {
             return None;
         }
-        Some(self.byte(self.position_start(row) + self.header.bins + class))
+        Some(self.byte(self.position_start(row) + self.header.bins as usize + class))
     }
 
     pub fn offered(&self, row: usize) -> Option<usize>
         ensures { λ r. ⌜ r ≡ offered-at (certificate-of (vec-items (now (self .entry) .bytes))) row ⌝ }
     {
-        if row >= self.header.rows {
+        if row >= self.header.rows as usize {
             return None;
         }
         Some(self.byte(self.answer_start(row)) as usize)
@@ -166,7 +166,10 @@ impl RowFile {
     pub fn packed(&self, row: usize, bin: usize, class: usize) -> Option<u16>
         ensures { λ r. ⌜ r ≡ packed-at (certificate-of (vec-items (now (self .entry) .bytes))) row bin class ⌝ }
     {
-        if row >= self.header.rows || bin >= self.header.bins || class >= self.header.classes {
+        if row >= self.header.rows as usize
+            || bin >= self.header.bins as usize
+            || class >= self.header.classes as usize
+        {
             return None;
         }
         Some(self.byte(self.packed_start(row, bin) + class))

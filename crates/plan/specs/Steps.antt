@@ -6,8 +6,8 @@ use lib.ListN.{take}
 use Rattle.std.specs.declared.option.Option.{Option}
 use Rattle.std.specs.declared.option.Option.the-variants.{Some, None}
 use Rattle.certificate.specs.Certificates.{Certificate, row-count, row, offered}
-use Rattle.plan.specs.declared.numbers.Numbers.{Numbers}
-use Rattle.plan.specs.declared.position.Position.{Position}
+use Rattle.plan.specs.declared.position.Numbers.{Numbers}
+use Rattle.plan.specs.declared.position.steps.Position.{Position}
 use Rattle.plan.specs.Positions.{next-loads, next-counts, offer}
 
 -- the numbers that a short list holds

@@ -1,8 +1,8 @@
 // The rules of a winning plan: numbers 21 to 26.
 ghost use mathlib.Core.Path.{_≡_};
 ghost use Rattle.plan.specs.Plan.{starts-rule, descends-rule, accounts-rule, packs-rule, shares-rule, goes-on-rule};
-use crate::position::empty_position;
-use crate::position::next_position;
+use crate::position::steps::empty_position;
+use crate::position::steps::next_position;
 use crate::sums::count;
 use crate::sums::load;
 use crate::sums::offered;
@@ -35,11 +35,7 @@ pub impl<S: Store> RuleOf<S> for Starts as StartsRule {
     ghost rule = { λ s. starts-rule (S·Store .meaning s) };
 
     fn scope(&self, _store: &S) -> Scope {
-        Scope {
-            number: STARTS,
-            rows: 1,
-            places: 1,
-        }
+        Scope::new(STARTS, 1, 1)
     }
 
     fn is_broken(&self, store: &S, _row: usize, _place: usize) -> bool {
@@ -58,11 +54,7 @@ pub impl<S: Store> RuleOf<S> for Descends as DescendsRule {
     ghost rule = { λ s. descends-rule (S·Store .meaning s) };
 
     fn scope(&self, store: &S) -> Scope {
-        Scope {
-            number: DESCENDS,
-            rows: store.rows(),
-            places: store.bins(),
-        }
+        Scope::new(DESCENDS, store.rows(), store.bins())
     }
 
     fn is_broken(&self, store: &S, row: usize, bin: usize) -> bool {
@@ -78,11 +70,7 @@ pub impl<S: Store> RuleOf<S> for Accounts as AccountsRule {
     ghost rule = { λ s. accounts-rule (S·Store .meaning s) };
 
     fn scope(&self, store: &S) -> Scope {
-        Scope {
-            number: ACCOUNTS,
-            rows: store.rows(),
-            places: 1,
-        }
+        Scope::new(ACCOUNTS, store.rows(), 1)
     }
 
     fn is_broken(&self, store: &S, row: usize, _place: usize) -> bool {
@@ -98,11 +86,7 @@ pub impl<S: Store> RuleOf<S> for Packs as PacksRule {
     ghost rule = { λ s. packs-rule (S·Store .meaning s) };
 
     fn scope(&self, store: &S) -> Scope {
-        Scope {
-            number: PACKS,
-            rows: store.rows(),
-            places: store.bins(),
-        }
+        Scope::new(PACKS, store.rows(), store.bins())
     }
 
     fn is_broken(&self, store: &S, row: usize, bin: usize) -> bool {
@@ -118,11 +102,7 @@ pub impl<S: Store> RuleOf<S> for Shares as SharesRule {
     ghost rule = { λ s. shares-rule (S·Store .meaning s) };
 
     fn scope(&self, store: &S) -> Scope {
-        Scope {
-            number: SHARES,
-            rows: store.rows(),
-            places: store.classes(),
-        }
+        Scope::new(SHARES, store.rows(), store.classes())
     }
 
     fn is_broken(&self, store: &S, row: usize, class: usize) -> bool {
@@ -139,11 +119,7 @@ pub impl<S: Store> RuleOf<S> for GoesOn as GoesOnRule {
     ghost rule = { λ s. goes-on-rule (S·Store .meaning s) };
 
     fn scope(&self, store: &S) -> Scope {
-        Scope {
-            number: GOES_ON,
-            rows: store.rows(),
-            places: store.bins(),
-        }
+        Scope::new(GOES_ON, store.rows(), store.bins())
     }
 
     fn is_broken(&self, store: &S, row: usize, bin: usize) -> bool {

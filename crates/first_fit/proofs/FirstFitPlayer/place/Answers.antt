@@ -1,0 +1,21 @@
+use native.Mathlib.Omega.{arith}
+use Prim.Native.Nat.{_<_}
+use lib.ListN.{length}
+use Rattle.players.specs.Choosing.{threshold}
+use Rattle.players.specs.Fitting.{FitsWithin}
+use Rattle.players.specs.Held.{held}
+use Rattle.players.proofs.Declining.{made-answered}
+use Rattle.players.proofs.LowestLoads.{threshold-says}
+use Rattle.first_fit.proofs.FirstFitPlayer.place.Needs as need
+
+pub returns : need.returns
+returns c =
+    let bins = c .args .self .now .bins in
+    let capacity = c .args .self .now .capacity in
+    let some : 0 < length (held bins) = omega (arith, bins .slotted, bins .sized .0) in
+    record {
+      placed = c .put .ensures .placed;
+      chosen = c .put .ensures .chosen;
+      fits = made-answered (held bins) (c .args .size) (threshold capacity (held bins) (c .args .size)) (FitsWithin capacity (held bins) (c .args .size)) (c .put .result) (c .put .ensures .chosen) (threshold-says capacity (held bins) (c .args .size) some);
+      kept = c .put .ensures .kept;
+    }

@@ -1,0 +1,4 @@
+pub mod Placing
+pub mod Choosing
+pub mod Fitting
+pub mod Held

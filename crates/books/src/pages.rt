@@ -7,12 +7,13 @@ ghost use Rattle.certificate.specs.Lawful.{most-bins, most-count, most-rows};
 ghost use Rattle.certificate.specs.Rules.{judge-all};
 ghost use Rattle.books.specs.Books.{book-bins, book-rows, book-bytes, situation-of, advised-by, order-rule, advice-rule, row-rules, Headed};
 ghost use Rattle.players.specs.Held.{held};
-use crate::situation::comes_before;
 use certificate::fault::Fault;
 use certificate::rule::RuleOf;
 use certificate::rule::Scope;
 use certificate::rule::judge;
 use players::bins::Bins;
+use search::standing_of;
+use std::cmp::Ordering;
 
 // m and the two bytes of N.
 pub const HEADER_BYTES: usize = 3;
@@ -100,7 +101,7 @@ impl RuleOf<Pages> for InOrder as InOrderRule {
     }
 
     fn is_broken(&self, pages: &Pages, row: usize, _place: usize) -> bool {
-        row > 0 && !comes_before(pages.situation(row - 1), pages.situation(row))
+        row > 0 && standing_of(pages.situation(row - 1), pages.situation(row)) != Ordering::Less
     }
 }
 

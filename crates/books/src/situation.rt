@@ -4,7 +4,7 @@ ghost use mathlib.Core.Path.{_≡_};
 ghost use mathlib.Core.List.{[], _∷_, _++_};
 ghost use lib.ListN.{take};
 ghost use Rattle.certificate.specs.Lawful.{most-bins};
-ghost use Rattle.search.specs.Ascending.{standing, precedes};
+ghost use Rattle.search.specs.Ascending.{standing};
 ghost use Rattle.players.specs.Held.{held};
 use players::bins::Bins;
 use players::bins::MOST_BINS;
@@ -55,11 +55,4 @@ pub fn compare_row(row: &[u8], numbers: &[u16]) -> Ordering
         }
     }
     row.len().cmp(&numbers.len())
-}
-
-// Whether a row of bytes comes before another.
-pub fn comes_before(row: &[u8], other: &[u8]) -> bool
-    ensures { λ r. ⌜ r ≡ precedes (now (row .entry)) (now (other .entry)) ⌝ }
-{
-    row.cmp(other).is_lt()
 }

@@ -16,9 +16,14 @@ use Rattle.std.proofs.shelf.Tests.{both-ways, false≢true, and-parts, ltb-true
 use Rattle.certificate.specs.declared.fault.Fault.{Fault}
 use Rattle.certificate.specs.Faults.{fault}
 use Rattle.certificate.specs.Rules.{Rule, first, in-row, row-broken, reported, judged, judge-all, next-after}
-use Rattle.certificate.specs.Least.{Breaks, Broken, Before, Least, Judges, rising}
+use Rattle.certificate.specs.Least.{Breaks, Broken, Before, Least, Judges}
 use Rattle.certificate.proofs.Firsts.{Quiet, Least-at, first-says, none-quiet, some-least}
 use Rattle.certificate.proofs.Judged.{Holds, none-from-isSome, all-hold}
+
+-- the rules' numbers rise from above n
+abbrev pub rising : ℕ → List Rule → Bool
+rising n [] = true
+rising n (r ∷ rs) = ltb n (r .number) && rising (r .number) rs
 
 -- the fault breaks the rule, and none before it does
 abbrev pub First-of : Rule → Fault → Type 0

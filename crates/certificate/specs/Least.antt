@@ -1,10 +1,9 @@
 -- What a judgement by a list of rules means, in words of order: the least broken (number, place, place).
 use Prim.Native.Nat.{ℕ, _<_}
 use mathlib.Core.Path.{_≡_}
-use mathlib.Core.Bool.{Bool, true, _&&_}
+use mathlib.Core.Bool.{true}
 use mathlib.Core.Logic.{_⊎_}
 use mathlib.Core.List.{List, [], _∷_}
-use lib.Dec.{ltb}
 use Rattle.std.specs.Results.{Cases}
 use Rattle.std.specs.declared.result.Result.{Result}
 use Rattle.certificate.specs.declared.fault.Fault.{Fault}
@@ -31,8 +30,3 @@ pub record Least (rs : List Rule) (f : Fault) : Type 0 where
 -- nothing is broken where the answer is no fault, and a fault is the least one
 abbrev pub Judges : {X : Type 0} → List Rule → Result X Fault → Type 0
 Judges rs answer = Cases answer (λ _. (f : Fault) → Broken rs f → ⊥) (Least rs)
-
--- the rules' numbers rise from above n
-abbrev pub rising : ℕ → List Rule → Bool
-rising n [] = true
-rising n (r ∷ rs) = ltb n (r .number) && rising (r .number) rs

@@ -15,7 +15,7 @@ pub trait Store {
     fn bins(&self) -> usize
         ensures { λ r. ⌜ r ≡ meaning (now (self .entry)) .bins ⌝ };
 
-    // T, the size of the bins that all items fit
+    // T, the capacity of the bins that all items fit
     fn capacity(&self) -> u16
         ensures { λ r. ⌜ r ≡ meaning (now (self .entry)) .capacity ⌝ };
 

@@ -9,9 +9,9 @@ use Rattle.std.specs.declared.result.Result.the-variants.{Ok, Err}
 use Rattle.certificate.specs.declared.fault.Fault.{Fault}
 use Rattle.certificate.specs.Rules.{Rule, judge-all, next-after}
 use Rattle.certificate.specs.Certificates.{Certificate}
-use Rattle.certificate.specs.Least.{Judges, rising}
+use Rattle.certificate.specs.Least.{Judges}
 use Rattle.certificate.proofs.Rules.{judge-append, next-after-assoc, next-after-ok}
-use Rattle.certificate.proofs.Least.{judges, judges-after}
+use Rattle.certificate.proofs.Least.{rising, judges, judges-after}
 use Rattle.layout.specs.Layout.{certificate-of}
 use Rattle.layout.specs.Opening.{opened}
 

@@ -2,20 +2,21 @@
 use Prim.Native.Nat.{ℕ, zero, suc, _+_, _*_, _≤_, _<_}
 use native.Mathlib.Omega.{arith}
 use mathlib.Core.Path.{_≡_, refl, sym, ap, subst, _∙_}
-use mathlib.Core.Logic.{_⊎_, inl, inr, inl, inr}
+use mathlib.Core.Logic.{_⊎_, inl, inr}
 use mathlib.Core.List.{List, [], _∷_, _++_, map}
 use lib.ListN.{length}
-use Rattle.std.specs.shelf.Lists.{All, sum}
+use Rattle.std.specs.shelf.Lists.{sum}
 use Rattle.std.proofs.shelf.Tests.{cases-lt}
-use Rattle.std.proofs.shelf.Lists.{append-assoc, map-push}
+use Rattle.std.proofs.shelf.Lists.{append-assoc, map-push, length-map}
 use Rattle.std.proofs.shelf.Sums.{sumBy-push}
 use Rattle.certificate.specs.Certificates.{Certificate, size, offered}
 use Rattle.certificate.specs.Lawful.{Lawful}
 use Rattle.plan.specs.Positions.{offer}
+use Rattle.plan.specs.Plan.{bound}
 use Rattle.plan.specs.Winning.{Winning}
-use Rattle.plan.specs.Bound.{Algorithm, bins-of, carries, Fit, Forces}
+use Rattle.plan.specs.Bound.{Algorithm, bins-of, carries, Beaten, Forces, Forces-within}
 use Rattle.plan.proofs.Packing.{fit-sum}
-use Rattle.plan.proofs.Sizes.{items-some}
+use Rattle.plan.proofs.Sizes.{items-some, fit-bound}
 use Rattle.plan.proofs.Step.{Reached, raised, raised-own, reached-start, reached-like, reached-on, classes-more, offer-fits}
 
 -- the algorithm gives a bin to each item
@@ -57,9 +58,7 @@ carried-by-push a xs x y =
 module _ (c : Certificate) (lawful : Lawful c) (winning : Winning c) (a : Algorithm) (in-range : (xs : List ℕ) → a xs < c .bins) where
   -- what the plan reaches: items that fit, and a bin that they raise to the target
   abbrev Won : Type 0
-  Won =
-      (items : List ℕ) × All (λ x. 1 ≤ x) items × Fit (c .bins) (c .capacity) items
-      × ((b : ℕ) × (b < c .bins) × (c .target ≤ carried-by a items b))
+  Won = (items : List ℕ) × (length items ≤ bound c) × Beaten (c .bins) (c .capacity) (c .target) a items
 
   -- the items of these classes
   abbrev items-of : List ℕ → List ℕ
@@ -106,7 +105,9 @@ module _ (c : Certificate) (lawful : Lawful c) (winning : Winning c) (a : Algori
             inr (on .0, reached-like c (loads-of more) (on .1) (λ y q. sym (loads-more ks k y)))
         | inr l ↦
             let some = items-some c lawful more (classes-more c lawful r) in
-            inl (items-of more, some, offer-fits c lawful winning r, (b, b-there, omega arith))
+            let fits = offer-fits c lawful winning r in
+            let few : length (items-of more) ≤ bound c = omega (arith, length-map more (size c), fit-bound c lawful more (classes-more c lawful r) fits) in
+            inl (items-of more, few, (some, fits, (b, b-there, omega arith)))
       ]
 
   -- the play from row i: `left` is more than the room that is left in the bins, and falls with each item
@@ -124,6 +125,10 @@ module _ (c : Certificate) (lawful : Lawful c) (winning : Winning c) (a : Algori
       let start = winning .starts in
       play (c .bins * c .capacity + 1) [] (start .0) (reached-start c (start .0) (start .1)) (omega arith)
 
+-- a winning plan forces the bound, with no more items than can fit
+pub winning-forces-within : (c : Certificate) → Lawful c → Winning c → Forces-within (bound c) (c .bins) (c .capacity) (c .target)
+winning-forces-within c lawful winning a in-range = won c lawful winning a in-range
+
 -- a winning plan forces the bound
 pub winning-forces : (c : Certificate) → Lawful c → Winning c → Forces (c .bins) (c .capacity) (c .target)
-winning-forces c lawful winning a in-range = won c lawful winning a in-range
+winning-forces c lawful winning a in-range = let w = winning-forces-within c lawful winning a in-range in (w .0, w .2)

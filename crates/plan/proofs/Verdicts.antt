@@ -13,13 +13,14 @@ use Rattle.certificate.specs.Rules.{judge-all, next-after}
 use Rattle.certificate.specs.Certificates.{Certificate, row-count}
 use Rattle.certificate.specs.Lawful.{Lawful}
 use Rattle.certificate.specs.Least.{Judges}
+use Rattle.certificate.proofs.Rules.{next-after-ok}
 use Rattle.certificate.proofs.Least.{judges, judges-after}
 use Rattle.plan.specs.declared.verdict.Verdict.{Verdict}
 use Rattle.plan.specs.Plan.{plan-rules, bound, verdict}
 use Rattle.plan.specs.Winning.{Winning}
-use Rattle.plan.specs.Bound.{Forces}
+use Rattle.plan.specs.Bound.{Forces, Forces-within}
 use Rattle.plan.proofs.Plans.{winning-from-rules, rules-from-winning}
-use Rattle.plan.proofs.Forces.{winning-forces}
+use Rattle.plan.proofs.Forces.{winning-forces, winning-forces-within}
 
 -- the verdict of a plan that breaks no rule
 abbrev pub acceptance : Certificate → Verdict
@@ -45,3 +46,11 @@ module _ (c : Certificate) (lawful : Lawful c) (r : Result Verdict Fault) (answe
 pub accepted-forces : (c : Certificate) → Lawful c → (r : Result Verdict Fault) → Decides (isOk r) (Winning c) → made r (λ _. Forces (c .bins) (c .capacity) (c .target))
 accepted-forces c lawful (Ok v) d = winning-forces c lawful (d .0 refl)
 accepted-forces c lawful (Err f) d = tt
+
+-- and it needs no more items than the verdict says
+pub accepted-within : (c : Certificate) → Lawful c → (r : Result Verdict Fault) → r ≡ verdict c → Decides (isOk r) (Winning c) → made r (λ v. Forces-within (v .bound) (c .bins) (c .capacity) (c .target))
+accepted-within c lawful (Ok v) e d =
+    let p = next-after-ok (judge-all (plan-rules c)) (Ok (acceptance c)) v (sym e) in
+    let same : acceptance c ≡ v = cc (p .1) in
+    subst (λ (x : Verdict). Forces-within (x .bound) (c .bins) (c .capacity) (c .target)) same (winning-forces-within c lawful (d .0 refl))
+accepted-within c lawful (Err f) e d = tt

@@ -26,6 +26,14 @@ carries (x ∷ xs) (c ∷ cs) b = cond (eqb c b) x 0 + carries xs cs b
 abbrev pub Fit : ℕ → ℕ → List ℕ → Type 0
 Fit m t items = (bs : List ℕ) × (length bs ≡ length items) × All (λ b. b < m) bs × ((b : ℕ) → b < m → carries items bs b ≤ t)
 
--- No algorithm keeps all of m bins below r on every list of items that fits m bins of size t.
+-- these items fit m bins of capacity t, and the algorithm lets some bin reach r on them
+abbrev pub Beaten : ℕ → ℕ → ℕ → Algorithm → List ℕ → Type 0
+Beaten m t r a items = All (λ x. 1 ≤ x) items × Fit m t items × ((b : ℕ) × (b < m) × (r ≤ carries items (bins-of a [] items) b))
+
+-- No algorithm keeps all of m bins below r on every list of items that fits m bins of capacity t.
 abbrev pub Forces : ℕ → ℕ → ℕ → Type 0
-Forces m t r = (a : Algorithm) → ((xs : List ℕ) → a xs < m) → (items : List ℕ) × All (λ x. 1 ≤ x) items × Fit m t items × ((b : ℕ) × (b < m) × (r ≤ carries items (bins-of a [] items) b))
+Forces m t r = (a : Algorithm) → ((xs : List ℕ) → a xs < m) → (items : List ℕ) × Beaten m t r a items
+
+-- the same, with at most n items
+abbrev pub Forces-within : ℕ → ℕ → ℕ → ℕ → Type 0
+Forces-within n m t r = (a : Algorithm) → ((xs : List ℕ) → a xs < m) → (items : List ℕ) × (length items ≤ n) × Beaten m t r a items

@@ -8,7 +8,7 @@ ghost use Rattle.certificate.specs.Rules.{judge-all};
 ghost use Rattle.certificate.specs.Least.{Judges};
 ghost use Rattle.plan.specs.Plan.{plan-rules, bound, verdict as verdict-of};
 ghost use Rattle.plan.specs.Winning.{Winning};
-ghost use Rattle.plan.specs.Bound.{Forces};
+ghost use Rattle.plan.specs.Bound.{Forces, Forces-within};
 use crate::rules::Accounts;
 use crate::rules::AccountsRule;
 use crate::rules::Descends;
@@ -52,6 +52,7 @@ pub fn check<S: Store>(store: &S) -> Result<Verdict, Fault>
     ensures winning { λ r. ⌜ Decides (isOk r) (Winning (S·Store .meaning (now (store .entry)))) ⌝ }
     ensures least { λ r. ⌜ Judges (plan-rules (S·Store .meaning (now (store .entry)))) r ⌝ }
     ensures forces { λ r. ⌜ made r (λ _. Forces (S·Store .meaning (now (store .entry)) .bins) (S·Store .meaning (now (store .entry)) .capacity) (S·Store .meaning (now (store .entry)) .target)) ⌝ }
+    ensures within { λ r. ⌜ made r (λ v. Forces-within (v .bound) (S·Store .meaning (now (store .entry)) .bins) (S·Store .meaning (now (store .entry)) .capacity) (S·Store .meaning (now (store .entry)) .target)) ⌝ }
 {
     plan_holds(store)?;
     Ok(Verdict {

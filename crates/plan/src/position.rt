@@ -7,7 +7,7 @@ ghost use Rattle.plan.specs.Positions.{without, insert, next-counts, Place-of}
 
 pub mod steps;
 
-// As many numbers as a position has counts, which are more than its loads.
+// The most counts of a position, 32, which is more than its most loads, 8.
 const MOST: usize = 32;
 
 #[derive(Clone, Copy)]

@@ -1,0 +1,5 @@
+pub mod Turns
+pub mod Loads
+pub mod Settling
+pub mod Opening
+pub mod Law

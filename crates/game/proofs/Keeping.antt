@@ -100,6 +100,7 @@ module _ (c : Certificate) (lawful : Lawful c) (winning : Winning c) where
       record {
         fits = subst (λ xs. Fit (c .bins) (c .capacity) xs) (sym (h .state .2)) (placed-fit c winning (p .stands));
         no-escape = λ e. e;
+        ends = λ e. e;
         over = ((λ e. absurd e), none-reaches cs loads (h .carrying) (p .below));
         counted = (h .number, answers);
         few = omega (arith, p .number);
@@ -116,6 +117,7 @@ module _ (c : Certificate) (lawful : Lawful c) (winning : Winning c) where
       record {
         fits = subst (λ xs. Fit (c .bins) (c .capacity) xs) (sym (h .state .2)) (offer-fits c lawful winning (p .stands));
         no-escape = λ e. e;
+        ends = λ e. e;
         over = ((λ e. absurd e), none-reaches cs loads (h .carrying) (p .below));
         counted = (h .number, answers);
         few = omega (arith, p .number);
@@ -131,6 +133,7 @@ module _ (c : Certificate) (lawful : Lawful c) (winning : Winning c) where
       record {
         fits = e .fits;
         no-escape = not-both (m .outcome) (e .is-over);
+        ends = λ _. e .is-over;
         over = ((λ _. (m .bin, e .there, omega (arith, e .high))), (λ _. e .is-over));
         counted = (h .number, answers);
         few = e .few;

@@ -1,24 +1,26 @@
 -- A match that was opened keeps the law.
 use Prim.Native.Nat.{ℕ, _<_}
 use native.Mathlib.Omega.{arith}
-use mathlib.Core.Path.{_≡_, refl, sym, subst}
+use mathlib.Core.Path.{_≡_, refl, sym, ap, subst, _∙_}
 use mathlib.Core.Bool.{true}
 use mathlib.Core.List.{List}
 use lib.Dec.{eqb}
 use lib.ListN.{length, getD}
 use Rattle.std.specs.Options.{isSome, valueOr}
+use Rattle.std.specs.Results.{isOk}
 use Rattle.std.specs.Vec.{made}
 use Rattle.std.specs.declared.option.Option.{Option}
 use Rattle.std.specs.declared.option.Option.the-variants.{Some, None}
 use Rattle.std.specs.declared.result.Result.{Result}
 use Rattle.std.specs.declared.result.Result.the-variants.{Ok, Err}
-use Rattle.std.proofs.shelf.Tests.{false≢true, not-false, eqb-true}
+use Rattle.std.proofs.shelf.Tests.{false≢true, not-false, not-from-true, eqb-true, eq-eqb}
+use Rattle.std.proofs.shelf.Lists.{length-replicate, getD-replicate}
 use Rattle.certificate.specs.declared.fault.Fault.{Fault}
 use Rattle.certificate.specs.Certificates.{Certificate, Stands}
 use Rattle.certificate.specs.Lawful.{Lawful}
-use Rattle.certificate.specs.Rules.{judge-all}
-use Rattle.certificate.proofs.Finding.{found-stands}
-use Rattle.certificate.proofs.Judged.{hold-from-judge-all}
+use Rattle.certificate.specs.Rules.{judge-all, next-after}
+use Rattle.certificate.proofs.Finding.{found-stands, found-from-row}
+use Rattle.certificate.proofs.Judged.{hold-from-judge-all, judge-all-from-hold}
 use Rattle.certificate.proofs.Rules.{next-after-ok}
 use Rattle.plan.specs.Positions.{empty-loads, empty-counts}
 use Rattle.plan.specs.Plan.{verdict}
@@ -53,3 +55,15 @@ module _ (c : Certificate) (lawful : Lawful c) (loads : List ℕ) where
       let ready = ready-at c (valueOr (start-row c) 0) 0 in
       let both = next-after-ok (judge-all (opening-rules c loads)) (Ok ready) m (sym e) in
       subst (λ (r : Result Ready Fault). made r (Law c loads)) (both .1) (law-at-start (both .0))
+
+  -- where the check accepts and the bins are empty, a match is opened
+  pub opened-from-accepted : isOk (verdict c) ≡ true → loads ≡ empty-loads c → opened c loads ≡ Ok (ready-at c (valueOr (start-row c) 0) 0)
+  opened-from-accepted accepted e =
+      let winning : Winning c = accepts-winning c lawful (verdict c) refl .0 accepted in
+      let starts = not-from-true (isSome (start-row c)) (found-from-row c (empty-loads c) (empty-counts c) (winning .starts .0) (winning .starts .1)) in
+      let long : length loads ≡ c .bins = ap length e ∙ length-replicate (c .bins) 0 in
+      let bins = not-from-true (eqb (length loads) (c .bins)) (eq-eqb (length loads) (c .bins) long) in
+      let none = λ (b : ℕ) (l : b < c .bins). ap (λ xs. getD xs b 0) e ∙ getD-replicate (c .bins) b 0 0 l in
+      let empty = λ (b : ℕ) (l : b < length loads). not-from-true (eqb (getD loads b 0) 0) (eq-eqb (getD loads b 0) 0 (none b (omega arith))) in
+      let passes = judge-all-from-hold (opening-rules c loads) ((λ _ _ _ _. starts), ((λ _ _ _ _. bins), ((λ b _ l _. empty b l), tt))) in
+      ap (λ a. next-after a (Ok (ready-at c (valueOr (start-row c) 0) 0))) passes

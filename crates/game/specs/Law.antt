@@ -133,6 +133,12 @@ Escaped (as-ready m) = ⊥
 Escaped (as-waiting m) = ⊥
 Escaped (as-ended m) = Is-escape (m .outcome)
 
+-- the match has ended
+abbrev pub Ended-now : Match → Type 0
+Ended-now (as-ready m) = ⊥
+Ended-now (as-waiting m) = ⊥
+Ended-now (as-ended m) = Unit {0}
+
 -- some bin carries the target or more
 abbrev pub Reaches : Certificate → List Call → Type 0
 Reaches c cs = (b : ℕ) × (b < c .bins) × (c .target ≤ carried cs b)
@@ -158,6 +164,8 @@ pub record Kept-after (c : Certificate) (cs : List Call) (x : Match) (loads : Li
   pub fits : Fit (c .bins) (c .capacity) (items cs)
   -- no settlement has ended as an escape
   pub no-escape : Escaped x → ⊥
+  -- a match that has ended is over
+  pub ends : Ended-now x → Over-now x
   -- the match is over exactly when some bin carries R or more
   pub over : (Over-now x → Reaches c cs) × (Reaches c cs → Over-now x)
   -- the match's number is that of the settlements accepted, and every answer to a question was right

@@ -1,4 +1,6 @@
 // What the rows of a file hold: numbers 8 to 10.
+#![tactic(auto)]
+
 ghost use Rattle.std.specs.Prelude.{◌≡◌};
 ghost use Rattle.certificate.specs.Rules.{judge_all};
 ghost use Rattle.certificate.specs.Contents.{sizes_rule, loads_rule, offers_rule, contents_rules};

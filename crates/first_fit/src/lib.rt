@@ -1,4 +1,6 @@
 // First fit, as an example of a player that a reader brings: the lowest bin that the item still fits.
+#![tactic(auto)]
+
 ghost use Rattle.std.specs.Prelude.{◌≡◌, true, IfOk};
 ghost use Rattle.players.specs.Choosing.{threshold};
 ghost use Rattle.players.specs.Fitting.{FitsWithin};

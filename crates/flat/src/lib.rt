@@ -1,4 +1,6 @@
 // The flat table: a certificate file whose positions stand in ascending order.
+#![tactic(auto)]
+
 mod flat_table;
 mod open;
 mod order;

@@ -1,4 +1,6 @@
 // Matches on the two-bin table, run through the code.
+#![tactic(auto)]
+
 #[cfg(test)]
 mod clumsy;
 #[cfg(test)]

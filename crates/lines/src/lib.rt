@@ -1,4 +1,6 @@
 // The lines of a printed sheet.
+#![tactic(auto)]
+
 ghost use Rattle.std.specs.Prelude.{◌≡◌, ◌+◌, ◌*◌, ◌<◌, length, IfOk, string_bytes};
 ghost use Rattle.lines.specs.Lines.{accepted_line, refused_line, match_line, entry_text, record_lines, end_line, load_text, loads_line};
 

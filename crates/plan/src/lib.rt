@@ -1,4 +1,6 @@
 // The check of a certificate over any store, and what an accepted one means.
+#![tactic(auto)]
+
 pub mod check;
 pub mod rules;
 mod sums;

@@ -1,4 +1,6 @@
 // Playing a match to its end, with a player that takes every item that is offered.
+#![tactic(auto)]
+
 ghost use Rattle.std.specs.Prelude.{◌≡◌, ◌*◌, ◌≤◌, length, IfOk, Ok};
 ghost use Rattle.game.specs.Opening.{opened};
 ghost use Rattle.play.specs.Playing.{Turn, Plays, Computed, WinsFrom};

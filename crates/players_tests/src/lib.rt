@@ -1,4 +1,6 @@
 // Players at work: tables of placings, of books and of refusals.
+#![tactic(auto)]
+
 #[cfg(test)]
 mod tests {
     use books::book::Book;

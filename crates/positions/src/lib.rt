@@ -1,4 +1,6 @@
 // A short list of numbers on the stack: the loads or the counts of a position.
+#![tactic(auto)]
+
 ghost use Rattle.std.specs.Prelude.{◌≡◌, ℕ, ◌+◌, ◌<◌, ◌≤◌, [], ◌∷◌, ◌++◌, length, take, replicate, slice_index};
 ghost use Rattle.positions.specs.Positions.{without, insert, next_counts, PlaceOf};
 

@@ -1,4 +1,6 @@
 // A programme: who plays the matches of a sheet.
+#![tactic(auto)]
+
 ghost use Rattle.std.specs.Prelude.{◌≡◌, [], ◌∷◌, slice_index};
 ghost use Rattle.certificate.specs.Faults.{fault};
 ghost use Rattle.certificate.specs.Rules.{judged};

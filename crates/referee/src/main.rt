@@ -1,4 +1,6 @@
 // Reads certificate.dat, programme.dat and, where a match asks for it, book.dat, and prints the sheet.
+#![tactic(auto)]
+
 ghost use Rattle.std.specs.Prelude.{◌≤◌, IfOk, vec_len};
 
 use programme::Programme;

@@ -1,4 +1,6 @@
 // The search of rows that stand in ascending order, for every kind of row whose keys are totally ordered.
+#![tactic(auto)]
+
 ghost use Rattle.std.specs.Prelude.{◌≡◌, ℕ, ◌<◌, List, MatchOption};
 ghost use Rattle.search.specs.Ascending.{standing, Ascending, row_with};
 

@@ -1,4 +1,6 @@
 // Sheets of the two-bin table with many programmes and books, run through the code.
+#![tactic(auto)]
+
 #[cfg(test)]
 mod tests {
     use cases::two_bins::{FOUR_ROWS, TWO_BINS};

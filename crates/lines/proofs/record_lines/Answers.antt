@@ -5,5 +5,5 @@ use Rattle.lines.proofs.record_lines.Goals as goal
 
 pub loop-turn-preserved : goal.loop-turn-preserved
 loop-turn-preserved c =
-    upto_more (entry_line c.args.record.now) c.loop-turn.turn (string_bytes c.loop-turn.text) (string_bytes c.push-str.new.self) c.deref.result.now
-    c.loop-turn.invariant c.in-ok-push-str.ensures.bytes (c.deref.ensures ∙ c.in-ok-line.ensures)
+    upto_more (entry_line c.args.record.now) c.loop-turn.turn (string_bytes c.loop-turn.text) (string_bytes c.push_str.new.self) c.deref.result.now
+    c.loop-turn.invariant c.in_ok-push_str.ensures.bytes (c.deref.ensures ∙ c.in_ok-line.ensures)

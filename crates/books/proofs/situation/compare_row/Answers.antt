@@ -3,14 +3,14 @@ use Rattle.search.specs.Ascending.{standing}
 use Rattle.books.proofs.Situations.{differs_here, ended, ranked_as, unequal_decides}
 use Rattle.books.proofs.situation.compare_row.Goals as goal
 
-pub returns-in-default : goal.returns-in-default
-returns-in-default c =
+pub returns-in_default : goal.returns-in_default
+returns-in_default c =
     let row = c.args.row.now in
     let numbers = c.args.numbers.now in
     let at = c.loop-at.at in
     let order = ranked_as c.from.result (get_or row at 0) (get_or numbers at 0) c.cmp.result c.from.ensures c.cmp.ensures in
     let here = differs_here row numbers at c.cmp.result (omega arith) (omega arith) order in
-    sym (sym c.loop-at.invariant ∙ (here ∙ unequal_decides c.cmp.result (standing (drop (at + 1) row) (drop (at + 1) numbers)) c.in-default.not-Equal))
+    sym (sym c.loop-at.invariant ∙ (here ∙ unequal_decides c.cmp.result (standing (drop (at + 1) row) (drop (at + 1) numbers)) c.in_default.not-Equal))
 
 pub loop-at-preserved : goal.loop-at-preserved
 loop-at-preserved c =

@@ -2,10 +2,10 @@ use Rattle.std.proofs.Common.{sym, arith}
 use Rattle.certificate.proofs.Firsts.{first_none, first_some}
 use Rattle.certificate.proofs.rule.first_in_row.Goals as goal
 
-pub returns-then-is-broken : goal.returns-then-is-broken
-returns-then-is-broken g c =
+pub returns-then-is_broken : goal.returns-then-is_broken
+returns-then-is_broken g c =
     let broken = (g.R.RuleOf.rule c.args.subject.now).broken c.args.row in
-    sym (first_some broken c.args.places c.loop-place.place (omega arith) (sym c.if-is-broken.ensures) c.loop-place.invariant)
+    sym (first_some broken c.args.places c.loop-place.place (omega arith) (sym c.if-is_broken.ensures) c.loop-place.invariant)
 
 pub returns : goal.returns
 returns g c =

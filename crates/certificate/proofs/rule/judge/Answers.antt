@@ -18,7 +18,7 @@ pub loop-row-preserved : goal.loop-row-preserved
 loop-row-preserved g c =
     let rule = g.R.RuleOf.rule c.args.subject.now in
     let row = c.loop-row.row in
-    let none = ap is_some (sym (c.in-default.ensures ∙ ap (λ (s : Scope). first (rule.broken row) s.places) c.scope-scope.ensures)) in
+    let none = ap is_some (sym (c.in_default.ensures ∙ ap (λ (s : Scope). first (rule.broken row) s.places) c.scope-scope.ensures)) in
     below_more (λ k. row_broken rule k ≡ false) row c.loop-row.invariant none
 
 pub returns : goal.returns

@@ -7,5 +7,5 @@ pub returns : goal.returns
 returns g c =
     let m = g.S.Store.meaning c.args.store.now in
     let lawful = g.met.S.Store.lawful c.args.store.now in
-    let class = c.unwrap-or-class.ensures ∙ (ap (λ o. unwrap_or o 0) c.offered.ensures ∙ offered_read m lawful c.args.row) in
-    c.unwrap-or.ensures ∙ (ap (λ o. unwrap_or o 0) c.size.ensures ∙ (size_read m lawful c.unwrap-or-class.result ∙ ap (size m) class))
+    let class = c.unwrap_or-class.ensures ∙ (ap (λ o. unwrap_or o 0) c.offered.ensures ∙ offered_read m lawful c.args.row) in
+    c.unwrap_or.ensures ∙ (ap (λ o. unwrap_or o 0) c.size.ensures ∙ (size_read m lawful c.unwrap_or-class.result ∙ ap (size m) class))

@@ -5,4 +5,4 @@ use Rattle.plan.proofs.sums.offered.Goals as goal
 pub returns : goal.returns
 returns g c =
     let m = g.S.Store.meaning c.args.store.now in
-    c.unwrap-or.ensures ∙ (ap (λ o. unwrap_or o 0) c.offered.ensures ∙ offered_read m (g.met.S.Store.lawful c.args.store.now) c.args.row)
+    c.unwrap_or.ensures ∙ (ap (λ o. unwrap_or o 0) c.offered.ensures ∙ offered_read m (g.met.S.Store.lawful c.args.store.now) c.args.row)

@@ -6,4 +6,4 @@ use Rattle.plan.proofs.sums.packed_of_class.Goals as goal
 pub loop-bin-preserved : goal.loop-bin-preserved
 loop-bin-preserved g c =
     let m = g.S.Store.meaning c.args.store.now in
-    sum_more (packed_in m c.args.row c.args.class) 65535 c.loop-bin.bin c.loop-bin.sum c.packed_sum.result c.loop-bin.invariant c.packed_sum.ensures.value (omega (arith, c.packed_sum.ensures.small))
+    sum_more (packed_in m c.args.row c.args.class) 65535 c.loop-bin.bin c.loop-bin.sum c.packed-sum.result c.loop-bin.invariant c.packed-sum.ensures.value (omega (arith, c.packed-sum.ensures.small))

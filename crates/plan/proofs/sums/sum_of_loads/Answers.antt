@@ -6,4 +6,4 @@ use Rattle.plan.proofs.sums.sum_of_loads.Goals as goal
 pub loop-bin-preserved : goal.loop-bin-preserved
 loop-bin-preserved g c =
     let m = g.S.Store.meaning c.args.store.now in
-    sum_more (load m c.args.row) 65535 c.loop-bin.bin c.loop-bin.sum c.load_sum.result c.loop-bin.invariant c.load_sum.ensures.value (omega (arith, c.load_sum.ensures.small))
+    sum_more (load m c.args.row) 65535 c.loop-bin.bin c.loop-bin.sum c.load-sum.result c.loop-bin.invariant c.load-sum.ensures.value (omega (arith, c.load-sum.ensures.small))

@@ -6,7 +6,7 @@ use Rattle.players.proofs.bins.least_full.Goals as goal
 
 pub loop-bin-preserved : goal.loop-bin-preserved
 loop-bin-preserved c =
-    least_more c.args.loads.now c.loop-bin.bin c.loop-bin.least c.less-full-least.result c.loop-bin.invariant.0 c.loop-bin.invariant.1 c.less-full-least.ensures
+    least_more c.args.loads.now c.loop-bin.bin c.loop-bin.least c.less_full-least.result c.loop-bin.invariant.0 c.loop-bin.invariant.1 c.less_full-least.ensures
 
 pub returns : goal.returns
 returns c =

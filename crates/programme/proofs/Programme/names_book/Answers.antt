@@ -3,10 +3,10 @@ use Rattle.certificate.proofs.Firsts.{first_some, first_none}
 use Rattle.programme.specs.Programmes.{match_count, book_at}
 use Rattle.programme.proofs.Programme.names_book.Goals as goal
 
-pub returns-then-is-by-book : goal.returns-then-is-by-book
-returns-then-is-by-book c =
+pub returns-then-is_by_book : goal.returns-then-is_by_book
+returns-then-is_by_book c =
     let bytes = vec_items c.args.self.now.bytes in
-    sym (ap is_some (first_some (book_at bytes) (match_count bytes + 1) c.loop-number.number (omega arith) (sym c.is-by-book.ensures ∙ c.if-is-by-book.true) c.loop-number.invariant))
+    sym (ap is_some (first_some (book_at bytes) (match_count bytes + 1) c.loop-number.number (omega arith) (sym c.is_by_book.ensures ∙ c.if-is_by_book.true) c.loop-number.invariant))
 
 pub returns : goal.returns
 returns c =

@@ -8,20 +8,20 @@ use Rattle.plan.specs.Bound.{Forces, ForcesWithin}
 use Rattle.sheet.specs.Sheet.{checked}
 use Rattle.sheet.proofs.judgement.judge_file.Goals as goal
 
-pub returns-in-err-verdict : goal.returns-in-err-verdict
-returns-in-err-verdict c =
-    let p = err_from_is_err_and c.from-residual-in-err-verdict.result c.from-residual-in-err-verdict.ensures.1 in
-    let opening = c.in-ok-table.ensures.answer in
-    rw (p.1, p.2) (record { answer = sym (c.in-err-verdict.ensures.answer ∙ ap checked opening); forces = tt; within = tt })
+pub returns-in_err-verdict : goal.returns-in_err-verdict
+returns-in_err-verdict c =
+    let p = err_from_is_err_and c.from_residual-in_err-verdict.result c.from_residual-in_err-verdict.ensures.1 in
+    let opening = c.in_ok-table.ensures.answer in
+    rw (p.1, p.2) (record { answer = sym (c.in_err-verdict.ensures.answer ∙ ap checked opening); forces = tt; within = tt })
 
 pub returns : goal.returns
 returns c =
     let file = vec_items c.args.file in
-    let table = table_meant c.in-ok-table.table in
-    let opening = c.in-ok-table.ensures.answer in
+    let table = table_meant c.in_ok-table.table in
+    let opening = c.in_ok-table.ensures.answer in
     let means = opened_means (flat_rules file) file table opening in
     record {
-      answer = (sym (c.in-ok-verdict.ensures.answer ∙ ap checked opening), means);
-      forces = subst (λ (m : Certificate). Forces m.bins m.capacity m.target) means c.in-ok-verdict.ensures.forces;
-      within = subst (λ (m : Certificate). ForcesWithin c.in-ok-verdict.verdict.bound m.bins m.capacity m.target) means c.in-ok-verdict.ensures.within;
+      answer = (sym (c.in_ok-verdict.ensures.answer ∙ ap checked opening), means);
+      forces = subst (λ (m : Certificate). Forces m.bins m.capacity m.target) means c.in_ok-verdict.ensures.forces;
+      within = subst (λ (m : Certificate). ForcesWithin c.in_ok-verdict.verdict.bound m.bins m.capacity m.target) means c.in_ok-verdict.ensures.within;
     }

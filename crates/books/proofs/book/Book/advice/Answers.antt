@@ -7,4 +7,4 @@ use Rattle.books.proofs.book.Book.advice.Goals as goal
 pub advised-requires : goal.advised-requires
 advised-requires c =
     let bytes = vec_items c.args.self.now.pages.bytes in
-    (some_least (has_key (situation_of bytes) _) (book_rows bytes) c.in-ok-row.row (sym c.in-ok-row.ensures.answer)).0
+    (some_least (has_key (situation_of bytes) _) (book_rows bytes) c.in_ok-row.row (sym c.in_ok-row.ensures.answer)).0

@@ -5,8 +5,8 @@ use Rattle.players.specs.Held.{held}
 use Rattle.books.proofs.Rows.{right_length, size_refuses, rows_judge, book_least, rows_rising, rows_known}
 use Rattle.books.proofs.book.Book.open.Goals as goal
 
-pub invariant-of-pages : goal.invariant-of-pages
-invariant-of-pages c =
+pub invariant_of-pages : goal.invariant_of-pages
+invariant_of-pages c =
     let book = vec_items c.args.book in
     let bins = c.in-Ok.found.0 in
     let headed = subst (λ b. Headed held b (Ok c.in-Ok.found)) c.deref.ensures.value c.in-Ok.ensures in
@@ -38,16 +38,16 @@ returns-in-Err-check c =
     let judged = rows_judge book (Err c.in-Err-check.fault) headed.0 c.in-Err-check.ensures in
     record { judged = judged; least = book_least book (Err c.in-Err-check.fault) judged; bytes = refl; empty = tt }
 
-pub invariant-of-result : goal.invariant-of-result
-invariant-of-result c =
+pub invariant_of-result : goal.invariant_of-result
+invariant_of-result c =
     let book = vec_items c.args.book in
     let headed = subst (λ b. Headed held b (Ok c.in-Ok.found)) c.deref.ensures.value c.in-Ok.ensures in
-    let passed = sym c.in-default.ensures in
+    let passed = sym c.in_default.ensures in
     (rows_rising book passed, (rows_known book passed, (ap length headed.1 ∙ length-replicate (book_bins book) 0, tt)))
 
 pub returns : goal.returns
 returns c =
     let book = vec_items c.args.book in
     let headed = subst (λ b. Headed held b (Ok c.in-Ok.found)) c.deref.ensures.value c.in-Ok.ensures in
-    let judged = rows_judge book (Ok tt) headed.0 c.in-default.ensures in
+    let judged = rows_judge book (Ok tt) headed.0 c.in_default.ensures in
     record { judged = judged; least = book_least book (Ok tt) judged; bytes = refl; empty = headed.1 }

@@ -5,4 +5,4 @@ use Rattle.books.proofs.Situations.{situated}
 use Rattle.books.proofs.situation.Situation.new.Goals as goal
 
 pub returns : goal.returns
-returns c = situated c.copy-from-slice.new.self c.loads-loads.result.now (held c.args.bins.now) _ c.args.size c.copy-from-slice.ensures.after c.loads-loads.ensures (search (rules, overwrites))
+returns c = situated c.copy_from_slice.new.self c.loads-loads.result.now (held c.args.bins.now) _ c.args.size c.copy_from_slice.ensures.after c.loads-loads.ensures (search (rules, overwrites))

@@ -19,12 +19,12 @@ returns-then-loads-bins c =
     let a = other_shape (table_meant table) (table_lawful table) loads counts shape in
     record { answer = a; found = found_says (table_meant table) loads counts None a }
 
-pub returns-in-default : goal.returns-in-default
-returns-in-default c =
+pub returns-in_default : goal.returns-in_default
+returns-in_default c =
     let table = c.args.self.now in
     let loads = c.args.loads.now in
     let counts = c.args.counts.now in
-    let a = no_bytes (table_meant table) (table_lawful table) loads counts (c.if-loads-bins.false ∙ c.bins.ensures) (c.if-counts-classes.false ∙ c.classes.ensures) c.in-default.ensures in
+    let a = no_bytes (table_meant table) (table_lawful table) loads counts (c.if-loads-bins.false ∙ c.bins.ensures) (c.if-counts-classes.false ∙ c.classes.ensures) c.in_default.ensures in
     record { answer = a; found = found_says (table_meant table) loads counts None a }
 
 pub returns : goal.returns

@@ -1,6 +1,5 @@
 -- Situations as rows of numbers: how one is put together, and how a row of bytes stands to it.
 use Rattle.std.proofs.Common.{◌≡◌, ℕ, ◌+◌, ◌<◌, min, List, [], ◌∷◌, ◌++◌, length, get_or, take, drop, set, Ordering, Less, Equal, Greater, sym, refl, ap, ◌∙◌, arith}
-use Rattle.std.specs.Cmp.{nat_cmp_total}
 use Rattle.std.specs.Ordering.{MatchOrdering, ordering_then, nat_cmp}
 use Rattle.std.proofs.lemmas.List.{take_more_set, take_at, drop_more, drop_all}
 use Rattle.search.specs.Ascending.{standing}
@@ -18,8 +17,8 @@ unequal_decides Equal after h = absurd (h refl)
 unequal_decides Greater after h = refl
 
 -- what comparing a number that is x with y answers
-pub ranked_as : (x' x y : ℕ) (order : Ordering) → x' ≡ x → MatchOrdering order (x' < y) (x' ≡ y) (y < x') → order ≡ nat_cmp x y
-ranked_as x' x y order e h = (nat_cmp_total.says x' y order h) ∙ ap (λ z. nat_cmp z y) e
+pub ranked_as : (x' x y : ℕ) (order : Ordering) → x' ≡ x → order ≡ nat_cmp x' y → order ≡ nat_cmp x y
+ranked_as x' x y order e h = h ∙ ap (λ z. nat_cmp z y) e
 
 module _ (xs ys : List ℕ) where
   -- the rows differ at place i, where x stands to y as `order` says

@@ -1,4 +1,5 @@
-use Rattle.std.proofs.Common.{◌+◌, get_or, drop, Equal, sym, ◌∙◌, arith}
+use Rattle.std.proofs.Common.{◌+◌, length, get_or, drop, Equal, sym, ◌∙◌, arith}
+use Rattle.std.specs.Cmp.{ranked}
 use Rattle.search.specs.Ascending.{standing}
 use Rattle.books.proofs.Situations.{differs_here, ended, ranked_as, unequal_decides}
 use Rattle.books.proofs.situation.compare_row.Goals as goal
@@ -24,4 +25,4 @@ pub returns : goal.returns
 returns c =
     let row = c.args.row.now in
     let numbers = c.args.numbers.now in
-    sym (sym c.loop-at.invariant ∙ ended row numbers c.loop-at.at c.cmp-2.result (omega arith) c.cmp-2.ensures)
+    sym (sym c.loop-at.invariant ∙ ended row numbers c.loop-at.at c.cmp-2.result (omega arith) (ranked (length row) (length numbers) c.cmp-2.result c.cmp-2.ensures))

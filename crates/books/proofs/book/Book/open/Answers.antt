@@ -10,19 +10,13 @@ invariant_of-pages c =
     let book = vec_items c.args.book in
     let bins = c.in-Ok.found.0 in
     let headed = subst (λ b. Headed held b (Ok c.in-Ok.found)) c.deref.ensures.value c.in-Ok.ensures in
-    let count : c.count.result ≡ book_bins book = c.count.ensures ∙ (ap length headed.1 ∙ length-replicate (book_bins book) 0) in (
-      (omega (arith, c.count.ensures, bins.slotted, bins.sized.1), headed.3),
-      (
-        headed.4,
-        (
-          (count, headed.2),
-          (
-            sym c.deref.ensures.len ∙ (ap length c.deref.ensures.value ∙ right_length book headed.0),
-            tt,
-          ),
-        ),
-      ),
-    )
+    let count : c.count.result ≡ book_bins book = c.count.ensures ∙ (ap length headed.1 ∙ length-replicate (book_bins book) 0) in
+    record {
+      small = (omega (arith, c.count.ensures, bins.slotted, bins.sized.1), headed.3);
+      octets = headed.4;
+      headed = (count, headed.2);
+      whole = sym c.deref.ensures.len ∙ (ap length c.deref.ensures.value ∙ right_length book headed.0);
+    }
 
 pub returns-in-Err : goal.returns-in-Err
 returns-in-Err c =
@@ -43,7 +37,11 @@ invariant_of-result c =
     let book = vec_items c.args.book in
     let headed = subst (λ b. Headed held b (Ok c.in-Ok.found)) c.deref.ensures.value c.in-Ok.ensures in
     let passed = sym c.in_default.ensures in
-    (rows_rising book passed, (rows_known book passed, (ap length headed.1 ∙ length-replicate (book_bins book) 0, tt)))
+    record {
+      rising = rows_rising book passed;
+      known = rows_known book passed;
+      level = ap length headed.1 ∙ length-replicate (book_bins book) 0;
+    }
 
 pub returns : goal.returns
 returns c =

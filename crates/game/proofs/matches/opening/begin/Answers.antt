@@ -9,7 +9,7 @@ pub returns : goal.returns
 returns g c =
     let m = g.S.Store.meaning c.args.store.now in
     let lawful = g.met.S.Store.lawful c.args.store.now in
-    let loads = g.P.Player.loads c.args.-player.now in
+    let loads = g.P.Player.loads c.args._player.now in
     let row = c.args.row in
     let r : Ready = record { row = row; size = c.offer_at.result; count = 0 } in
     let answer : r ≡ ready_at m row 0 = ap (λ (s : ℕ). record { row = row; size = s; count = 0 }) c.offer_at.ensures in

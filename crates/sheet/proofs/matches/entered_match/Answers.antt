@@ -7,32 +7,32 @@ use Rattle.programme.specs.declared.Entrant.TheVariants.{BestFit, Threshold, Boo
 use Rattle.sheet.proofs.Entering.{made_says, entrant_says}
 use Rattle.sheet.proofs.matches.entered_match.Goals as goal
 
-pub returns-in_ok-new : goal.returns-in_ok-new
-returns-in_ok-new g c =
+pub returns-in_ok-new-in-BestFit : goal.returns-in_ok-new-in-BestFit
+returns-in_ok-new-in-BestFit g c =
     let m = g.S.Store.meaning c.args.store.now in
     let r = c.played_match.result in
-    let made = c.in_ok-new.ensures in
+    let made = c.in_ok-new-in-BestFit.ensures in
     let says = c.played_match.ensures (best_fit m.target) (ap (λ t. by_choice (best_fit t)) (made.target ∙ c.target.ensures)) in
     entrant_says string_bytes m r c.args.book.now c.args.entrant BestFit c.in-BestFit.is
-    (made_says string_bytes m r bins_judged (λ n. n) (λ _. best_fit m.target) c.bins.result m.bins c.bins.ensures made.empty.0 (held c.in_ok-new.field-0.bins) made.empty.1 says)
+    (made_says string_bytes m r bins_judged (λ n. n) (λ _. best_fit m.target) c.bins.result m.bins c.bins.ensures made.empty.0 (held c.in_ok-new-in-BestFit.field-0.bins) made.empty.1 says)
 
-pub returns-in_ok-new-2 : goal.returns-in_ok-new-2
-returns-in_ok-new-2 g c =
+pub returns-in_ok-new-in-Threshold : goal.returns-in_ok-new-in-Threshold
+returns-in_ok-new-in-Threshold g c =
     let m = g.S.Store.meaning c.args.store.now in
     let limit = c.in-Threshold.limit in
     let r = c.played_match-in-Threshold.result in
-    let made = c.in_ok-new-2.ensures in
+    let made = c.in_ok-new-in-Threshold.ensures in
     let says = c.played_match-in-Threshold.ensures (threshold limit) (ap (λ t. by_choice (threshold t)) made.limit) in
     entrant_says string_bytes m r c.args.book.now c.args.entrant (Threshold limit) c.in-Threshold.is
-    (made_says string_bytes m r bins_judged (λ n. n) (λ _. threshold limit) c.bins-in-Threshold.result m.bins c.bins-in-Threshold.ensures made.empty.0 (held c.in_ok-new-2.field-0.bins) made.empty.1 says)
+    (made_says string_bytes m r bins_judged (λ n. n) (λ _. threshold limit) c.bins-in-Threshold.result m.bins c.bins-in-Threshold.ensures made.empty.0 (held c.in_ok-new-in-Threshold.field-0.bins) made.empty.1 says)
 
-pub returns-in_ok-open : goal.returns-in_ok-open
-returns-in_ok-open g c =
+pub returns-in_ok-open-in-Book : goal.returns-in_ok-open-in-Book
+returns-in_ok-open-in-Book g c =
     let m = g.S.Store.meaning c.args.store.now in
     let book = c.args.book.now in
     let r = c.played_match-in-Book.result in
-    let copied = c.in_ok-to_vec.ensures.items-if-clones-equal (λ x y h. h) in
-    let made = c.in_ok-open.ensures in
+    let copied = c.in_ok-to_vec-in-Book.ensures.items_if_clones_equal (λ x y h. h) in
+    let made = c.in_ok-open-in-Book.ensures in
     let says = c.played_match-in-Book.ensures (book_choice book) (ap (λ b. by_choice (book_choice b)) (ap vec_items made.bytes ∙ copied)) in
     entrant_says string_bytes m r book c.args.entrant Book c.in-Book.is
-    (made_says string_bytes m r book_judged book_bins book_choice (vec_items c.in_ok-to_vec.field-0) book copied (sym made.judged) (held c.in_ok-open.field-0.bins) made.empty says)
+    (made_says string_bytes m r book_judged book_bins book_choice (vec_items c.in_ok-to_vec-in-Book.field-0) book copied (sym made.judged) (held c.in_ok-open-in-Book.field-0.bins) made.empty says)

@@ -3,4 +3,4 @@ use Rattle.game_tests.proofs.clumsy.clumsy_calls.Given as goal
 
 -- the record keeps its length
 abbrev pub invariant-loop-turn : goal.invariant-loop-turn
-invariant-loop-turn l = length l.record ≡ 10
+invariant-loop-turn g l = length l.record ≡ 10

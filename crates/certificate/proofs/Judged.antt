@@ -1,6 +1,6 @@
 -- A rule passes exactly where none of its places is broken, and a list of rules exactly where each of them passes.
 use Rattle.std.proofs.Common.{◌≡◌, ℕ, ◌<◌, false, List, [], ◌∷◌, is_some, Some, None, Ok, Option, refl, ap, ◌∙◌, arith}
-use Rattle.std.specs.List.{AllByRecursion as All}
+use Rattle.std.specs.List.{AllByRecursion}
 use Rattle.certificate.specs.Rules.{Rule, in_row, row_broken, reported, judged, next_after, judge_all}
 use Rattle.certificate.proofs.Firsts.{Quiet, first_none, none_quiet}
 use Rattle.certificate.proofs.Rules.{judged_passes, passed}
@@ -32,12 +32,12 @@ pub holds_from_judged : (r : Rule) → judged r ≡ Ok tt → Holds r
 holds_from_judged r e = all_hold r (none_quiet (row_broken r) r.rows (none_from_reported r _ e))
 
 -- each rule passes: the list passes
-pub judge_all_from_hold : (rs : List Rule) → All Holds rs → judge_all rs ≡ Ok tt
+pub judge_all_from_hold : (rs : List Rule) → AllByRecursion Holds rs → judge_all rs ≡ Ok tt
 judge_all_from_hold [] h = refl
 judge_all_from_hold (r ∷ rs) h = ap (λ u. next_after u (judge_all rs)) (judged_from_holds r h.0) ∙ judge_all_from_hold rs h.1
 
 -- the list passes: each rule does
-pub hold_from_judge_all : (rs : List Rule) → judge_all rs ≡ Ok tt → All Holds rs
+pub hold_from_judge_all : (rs : List Rule) → judge_all rs ≡ Ok tt → AllByRecursion Holds rs
 hold_from_judge_all [] e = tt
 hold_from_judge_all (r ∷ rs) e =
     let both = passed r rs e in

@@ -2,7 +2,7 @@
 use Rattle.std.specs.Prelude.{◌≡◌, ℕ, ◌+◌, ◌-◌, ◌*◌, ◌<◌, ◌≤◌, Bool, true, false, cond, not, ◌&&◌, ◌||◌, ◌⊎◌, List, [], ◌∷◌, ◌++◌, map, length, drop, is_ok, Ok, Err, Result, ◌==◌, nat_le, nat_lt, slice_index, slice_index_or, refl}
 use Rattle.std.specs.declared.cmp.Ordering.TheVariants.{Less}
 use Rattle.std.proofs.Common.{arith, sym, ap, subst, ◌∙◌, inl, inr, length-take}
-use Rattle.std.specs.List.{AllByRecursion as All}
+use Rattle.std.specs.List.{AllByRecursion}
 use Rattle.std.proofs.lemmas.Bool.{ltb-false, leb-false, eqb-false, ne_eqb, not-false, and_cases, or_parts, cases_lt, cases_eq, cases_order, both_ways, false≢true}
 use Rattle.std.proofs.lemmas.List.{get_or_past}
 use Rattle.std.proofs.lemmas.List.FromFn.{length-map-range_with_len}
@@ -28,7 +28,7 @@ passed_from_test (Ok u) e = refl
 passed_from_test (Err f) e = absurd (false≢true e)
 
 module _ (c : Certificate) (sound : is_ok (judge_all (table_rules c)) ≡ true) where
-  all_hold : All Holds (table_rules c)
+  all_hold : AllByRecursion Holds (table_rules c)
   all_hold = hold_from_judge_all (table_rules c) (passed_from_test (judge_all (table_rules c)) sound)
 
   -- a size is above the one before and at most T

@@ -1,6 +1,6 @@
 -- Items fit where a packing has room for them, and items that fit have no larger sum than the bins together.
 use Rattle.std.proofs.Common.{◌≡◌, ℕ, suc, ◌+◌, ◌-◌, ◌*◌, ◌<◌, ◌≤◌, cond, ◌&&◌, eqb, List, [], ◌∷◌, map, length, sum, sym, refl, ap, ◌∙◌, subst, inl, inr, suc-mul, add-one, arith}
-use Rattle.std.specs.List.{AllByRecursion as All}
+use Rattle.std.specs.List.{AllByRecursion}
 use Rattle.std.proofs.lemmas.Bool.{eq-eqb, ne_eqb, cases_eq, and_left, and_right, and_from, cond-true, cond-false}
 use Rattle.std.proofs.lemmas.List.{length-map}
 use Rattle.std.proofs.lemmas.List.Sums.{sum_by-cons}
@@ -87,13 +87,13 @@ module _ (W : Packing) (j k : ℕ) where
 -- the items of these classes are given bins below m so that no bin gets more than the packing's bin holds
 abbrev pub PackedInto : Packing → (ℕ → ℕ) → ℕ → ℕ → List ℕ → Type 0
 PackedInto W z m K ks =
-    (bs : List ℕ) × (length bs ≡ length ks) × All (λ b. b < m) bs
+    (bs : List ℕ) × (length bs ≡ length ks) × AllByRecursion (λ b. b < m) bs
     × ((b : ℕ) → b < m → carries (map z ks) bs b ≤ volume W z K b)
 
 -- no class stands among the items more often than the packing holds it:
 -- each item is given a bin that still has one of its class
 pub packed_into :
-    (W : Packing) (z : ℕ → ℕ) (m K : ℕ) (ks : List ℕ) → All (λ k. k < K) ks
+    (W : Packing) (z : ℕ → ℕ) (m K : ℕ) (ks : List ℕ) → AllByRecursion (λ k. k < K) ks
     → ((k : ℕ) → k < K → often k ks ≤ held W m k) → PackedInto W z m K ks
 packed_into W z m K [] below enough = ([], refl, tt, λ b l. omega arith)
 packed_into W z m K (k ∷ ks) below enough =
@@ -106,7 +106,7 @@ packed_into W z m K (k ∷ ks) below enough =
 
 -- and where no packing bin holds more than t, the items fit
 pub fit_from_packing :
-    (W : Packing) (z : ℕ → ℕ) (m t K : ℕ) (ks : List ℕ) → All (λ k. k < K) ks
+    (W : Packing) (z : ℕ → ℕ) (m t K : ℕ) (ks : List ℕ) → AllByRecursion (λ k. k < K) ks
     → ((k : ℕ) → k < K → often k ks ≤ held W m k) → ((j : ℕ) → j < m → volume W z K j ≤ t) → Fit m t (map z ks)
 fit_from_packing W z m t K ks below enough room =
     let packed = packed_into W z m K ks below enough in
@@ -121,7 +121,7 @@ one_bin x c m l =
     omega (arith, share_own c x, total_none m)
 
 -- the bins together carry all items
-pub carried_sum : (m : ℕ) (xs bs : List ℕ) → length bs ≡ length xs → All (λ b. b < m) bs → total (carries xs bs) m ≡ sum xs
+pub carried_sum : (m : ℕ) (xs bs : List ℕ) → length bs ≡ length xs → AllByRecursion (λ b. b < m) bs → total (carries xs bs) m ≡ sum xs
 carried_sum m [] bs e below = total_none m
 carried_sum m (x ∷ xs) [] e below = absurd (omega arith)
 carried_sum m (x ∷ xs) (c ∷ cs) e below =
@@ -133,10 +133,10 @@ pub fit_sum : (m t : ℕ) (items : List ℕ) → Fit m t items → sum items ≤
 fit_sum m t items fit = omega (arith, carried_sum m items fit.0 fit.1 fit.2, total_most (carries items fit.0) t m fit.3)
 
 -- items of size s and more add up to at least s for each
-pub sum_least : (s : ℕ) (items : List ℕ) → All (λ x. s ≤ x) items → length items * s ≤ sum items
+pub sum_least : (s : ℕ) (items : List ℕ) → AllByRecursion (λ x. s ≤ x) items → length items * s ≤ sum items
 sum_least s [] h = omega arith
 sum_least s (x ∷ xs) h = rw suc-mul (omega (arith, sum_least s xs h.1, h.0, sum_by-cons (λ n. n) x xs))
 
 -- so many items of size s and more fit, and no more
-pub fit_few : (m t s : ℕ) (items : List ℕ) → All (λ x. s ≤ x) items → Fit m t items → length items * s ≤ m * t
+pub fit_few : (m t s : ℕ) (items : List ℕ) → AllByRecursion (λ x. s ≤ x) items → Fit m t items → length items * s ≤ m * t
 fit_few m t s items h fit = omega (arith, sum_least s items h, fit_sum m t items fit)

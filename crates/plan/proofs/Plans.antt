@@ -1,6 +1,6 @@
 -- A certificate breaks none of the plan's rules exactly where its plan is winning.
 use Rattle.std.proofs.Common.{◌≡◌, ℕ, ◌+◌, ◌-◌, ◌<◌, ◌≤◌, false, not, eqb, ltb, ◌⊎◌, List, is_some, Ok, subst, inl, inr, arith}
-use Rattle.std.specs.List.{AllByRecursion as All}
+use Rattle.std.specs.List.{AllByRecursion}
 use Rattle.std.proofs.lemmas.Bool.{not-false, not_from_true, and_cases, and_left, and_right, both_ways, eqb-true, eq-eqb, ne_eqb, ltb-false, lt-ltb, le-ltb, cases_lt, cases_eq}
 use Rattle.certificate.specs.Rules.{judge_all}
 use Rattle.certificate.specs.Certificates.{Certificate, row_count, row, load, offered, find_row}
@@ -73,7 +73,7 @@ module _ (c : Certificate) where
       ]
 
   -- no rule is broken: the plan is winning
-  pub winning_from_kept : All Holds (plan_rules c) → Winning c
+  pub winning_from_kept : AllByRecursion Holds (plan_rules c) → Winning c
   winning_from_kept h = record {
     starts = covers_from_lacks (empty_loads c) (empty_counts c) (h.0 0 0 (omega arith) (omega arith));
     descends = λ i j l p. falls_from_rises i j (h.1.0 i (j + 1) l p);
@@ -94,7 +94,7 @@ module _ (c : Certificate) where
       ]
 
   -- the plan is winning: no rule is broken
-  pub kept_from_winning : Winning c → All Holds (plan_rules c)
+  pub kept_from_winning : Winning c → AllByRecursion Holds (plan_rules c)
   kept_from_winning w =
       let starts : Holds (starts_rule c) = λ i j l p. lacks_from_covers (empty_loads c) (empty_counts c) w.starts in
       let descends : Holds (descends_rule c) = λ i j l p. rises_from_falls i j (falls w i j l p) in

@@ -1,6 +1,6 @@
 -- The game along the rows: what a row says of the items placed so far, and the row that follows when one more is placed.
 use Rattle.std.proofs.Common.{◌≡◌, ℕ, ◌+◌, ◌<◌, ◌≤◌, List, [], ◌∷◌, ◌++◌, map, length, get_or, set, sym, ap, ◌∙◌, subst, inl, inr, arith}
-use Rattle.std.specs.List.{AllByRecursion as All}
+use Rattle.std.specs.List.{AllByRecursion}
 use Rattle.std.proofs.lemmas.Bool.{cases_eq}
 use Rattle.std.proofs.lemmas.Bool.Decides.{nat_tests}
 use Rattle.std.proofs.lemmas.List.{get_or-replicate, get_or-set_same, get_or-set_other, length_push}
@@ -31,7 +31,7 @@ raised_other L b s x ne = omega (arith, share_other b x s (λ e. ne (sym e)))
 -- row i stands for the game in which items of the classes ks were placed, oldest first, and bin b carries L b
 pub record Reached (c : Certificate) (ks : List ℕ) (L : ℕ → ℕ) (i : ℕ) : Type 0 where
   pub there : i < row_count c
-  pub classes : All (λ k. k < class_count c) ks
+  pub classes : AllByRecursion (λ k. k < class_count c) ks
   pub counted : (k : ℕ) → k < class_count c → often k ks ≡ count c i k
   pub carried : (v : ℕ) → often v (row c i).loads ≡ bearing L v c.bins
 
@@ -66,7 +66,7 @@ module _ (c : Certificate) where
 
   -- items fit if no class stands among them more often than the row has it placed and offered
   pub row_fits :
-      Winning c → (i : ℕ) → i < row_count c → (ks : List ℕ) → All (λ k. k < class_count c) ks
+      Winning c → (i : ℕ) → i < row_count c → (ks : List ℕ) → AllByRecursion (λ k. k < class_count c) ks
       → ((k : ℕ) → k < class_count c → often k ks ≤ packed_due c i k)
       → Fit c.bins c.capacity (map (size c) ks)
   row_fits winning i l ks below enough =
@@ -90,7 +90,7 @@ module _ (c : Certificate) where
         (place.0, omega (arith, place.1, lawful.all_loads i r.there), place.2)
 
     -- one more class is offered, and each is in range
-    pub classes_more : {ks : List ℕ} {L : ℕ → ℕ} {i : ℕ} → Reached c ks L i → All (λ k. k < class_count c) (ks ++ offered c i ∷ [])
+    pub classes_more : {ks : List ℕ} {L : ℕ → ℕ} {i : ℕ} → Reached c ks L i → AllByRecursion (λ k. k < class_count c) (ks ++ offered c i ∷ [])
     classes_more {ks} {L} {i} r = All-push (λ k. k < class_count c) ks (offered c i) r.classes (lawful.offered_range i r.there)
 
     -- the offered item is placed into bin b, whose load stands at place j of row i:

@@ -1,6 +1,6 @@
 -- What a bound of online bin stretching says, of the game alone.
 use Rattle.std.specs.Prelude.{◌≡◌, ℕ, ◌+◌, ◌<◌, ◌≤◌, cond, List, [], ◌∷◌, ◌++◌, length, ◌==◌}
-use Rattle.std.specs.List.{AllByRecursion as All}
+use Rattle.std.specs.List.{AllByRecursion}
 
 -- an online algorithm: the bin of the newest item, from the sizes of all items so far, the newest last
 abbrev pub Algorithm : Type 0
@@ -19,11 +19,11 @@ carries (x ∷ xs) (c ∷ cs) b = cond (c == b) x 0 + carries xs cs b
 
 -- the items can be shared out over m bins so that no bin's sizes add up to more than t
 abbrev pub Fit : ℕ → ℕ → List ℕ → Type 0
-Fit m t items = (bs : List ℕ) × (length bs ≡ length items) × All (λ b. b < m) bs × ((b : ℕ) → b < m → carries items bs b ≤ t)
+Fit m t items = (bs : List ℕ) × (length bs ≡ length items) × AllByRecursion (λ b. b < m) bs × ((b : ℕ) → b < m → carries items bs b ≤ t)
 
 -- these items fit m bins of capacity t, and the algorithm lets some bin reach r on them
 abbrev pub Beaten : ℕ → ℕ → ℕ → Algorithm → List ℕ → Type 0
-Beaten m t r a items = All (λ x. 1 ≤ x) items × Fit m t items × ((b : ℕ) × (b < m) × (r ≤ carries items (bins_of a [] items) b))
+Beaten m t r a items = AllByRecursion (λ x. 1 ≤ x) items × Fit m t items × ((b : ℕ) × (b < m) × (r ≤ carries items (bins_of a [] items) b))
 
 -- No algorithm keeps all of m bins below r on every list of items that fits m bins of capacity t.
 abbrev pub Forces : ℕ → ℕ → ℕ → Type 0

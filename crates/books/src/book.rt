@@ -51,7 +51,7 @@ impl OrderedRows for Book {
 
     ghost key = { λ b. situation_of b.pages.bytes.items };
 
-    ghost ascending = { first_of (Prim.search rules, Prim.grind (arith, Self.row.coded.inj)) };
+    ghost ascending = { Prim.search rules };
 
     fn len(&self) -> usize {
         self.pages.rows
@@ -98,7 +98,7 @@ impl Book {
     fn put(&mut self, size: u16) -> Result<usize, Fault>
         ensures by { PlacedBy (book_choice self.old.pages.bytes.items) (ByBook self.old.pages.bytes.items) (held self.old.bins) size result (held self.new.bins) }
         ensures wide { (k : ℕ) → most_count < slice_index (held self.old.bins) k → result ≡ answered (held self.old.bins) size (least_full (held self.old.bins)) }
-        ensures same { self.new.pages.bytes ≡ self.old.pages.bytes }
+        ensures kept { self.new.pages.bytes ≡ self.old.pages.bytes }
     {
         let advice = self.advice(size);
         self.bins.place(size, advice)
@@ -110,9 +110,9 @@ impl Player for Book {
 
     ghost takes = { λ p. by_choice (book_choice p.pages.bytes.items) };
 
-    ghost sized = { first_of (Prim.search rules, Prim.grind (arith, Self.row.coded.inj)) };
+    ghost sized = { Prim.search rules };
 
-    ghost light = { first_of (Prim.search rules, Prim.grind (arith, Self.row.coded.inj)) };
+    ghost light = { Prim.search rules };
 
     fn bins(&self) -> usize {
         self.bins.count()
@@ -125,10 +125,11 @@ impl Player for Book {
     fn place(&mut self, size: u16) -> Result<usize, Fault>
         ensures placed { Placed (held self.old.bins) size result (held self.new.bins) }
         ensures ruled { IfOk result (λ b. by_choice (book_choice self.old.pages.bytes.items) (held self.old.bins) size b ≡ true) }
-        ensures kept { by_choice (book_choice self.new.pages.bytes.items) ≡ by_choice (book_choice self.old.pages.bytes.items) }
-        ensures by { PlacedBy (book_choice self.old.pages.bytes.items) (ByBook self.old.pages.bytes.items) (held self.old.bins) size result (held self.new.bins) }
+        ensures rule_kept { by_choice (book_choice self.new.pages.bytes.items) ≡ by_choice (book_choice self.old.pages.bytes.items) }
+        ensures chosen { result ≡ answered (held self.old.bins) size (book_choice self.old.pages.bytes.items (held self.old.bins) size) }
+        ensures fits { IfOk result (ByBook self.old.pages.bytes.items (held self.old.bins) size) }
         ensures wide { (k : ℕ) → most_count < slice_index (held self.old.bins) k → result ≡ answered (held self.old.bins) size (least_full (held self.old.bins)) }
-        ensures same { self.new.pages.bytes ≡ self.old.pages.bytes }
+        ensures kept { self.new.pages.bytes ≡ self.old.pages.bytes }
     {
         self.put(size)
     }

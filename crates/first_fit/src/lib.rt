@@ -5,7 +5,7 @@ ghost use Rattle.std.specs.Prelude.{◌≡◌, true, IfOk};
 ghost use Rattle.players.specs.Choosing.{threshold};
 ghost use Rattle.players.specs.Fitting.{FitsWithin};
 ghost use Rattle.players.specs.Held.{held};
-ghost use Rattle.players.specs.Placing.{by_choice, Placed, PlacedBy, MadeEmpty};
+ghost use Rattle.players.specs.Placing.{answered, by_choice, Placed, PlacedBy, MadeEmpty};
 ghost use Rattle.std.proofs.Common.{rules};
 
 use certificate::fault::Fault;
@@ -33,7 +33,7 @@ impl FirstFit {
     // Places an item by the rule.
     fn put(&mut self, size: u16) -> Result<usize, Fault>
         ensures by { PlacedBy (threshold self.old.capacity) (FitsWithin self.old.capacity) (held self.old.bins) size result (held self.new.bins) }
-        ensures same { self.new.capacity ≡ self.old.capacity }
+        ensures kept { self.new.capacity ≡ self.old.capacity }
     {
         let lowest = lowest_within(self.bins.loads(), size, self.capacity);
         self.bins.place(size, lowest)
@@ -60,9 +60,10 @@ impl Player for FirstFit {
     fn place(&mut self, size: u16) -> Result<usize, Fault>
         ensures placed { Placed (held self.old.bins) size result (held self.new.bins) }
         ensures ruled { IfOk result (λ b. by_choice (threshold self.old.capacity) (held self.old.bins) size b ≡ true) }
-        ensures kept { by_choice (threshold self.new.capacity) ≡ by_choice (threshold self.old.capacity) }
-        ensures by { PlacedBy (threshold self.old.capacity) (FitsWithin self.old.capacity) (held self.old.bins) size result (held self.new.bins) }
-        ensures same { self.new.capacity ≡ self.old.capacity }
+        ensures rule_kept { by_choice (threshold self.new.capacity) ≡ by_choice (threshold self.old.capacity) }
+        ensures chosen { result ≡ answered (held self.old.bins) size (threshold self.old.capacity (held self.old.bins) size) }
+        ensures fits { IfOk result (FitsWithin self.old.capacity (held self.old.bins) size) }
+        ensures kept { self.new.capacity ≡ self.old.capacity }
     {
         self.put(size)
     }

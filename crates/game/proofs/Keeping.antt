@@ -20,7 +20,7 @@ use Rattle.game.specs.declared.matches.Next.{Next}
 use Rattle.game.specs.Loads.{row_is}
 use Rattle.game.specs.Turns.{Match, as_ready, as_waiting, as_ended, number_of, Offers}
 use Rattle.game.specs.Settling.{still_offers, settling, Settled, Settles, next_row, leads, ready_at}
-use Rattle.game.specs.Law.{Call, gave, put, shown, Run, opened, offer as offers, settle, refuse, stay, ask, look}
+use Rattle.game.specs.Law.{Call, gave, put, shown, Run, opened, offer as offers, settle, refuse, ask, look}
 use Rattle.game.specs.Law.{items, placed_items, accepted, carried, ToldRight, IsOver, IsEscape, Reaches, KeptAfter, Keeps, reached}
 use Rattle.game.proofs.RowLoads.{row_is_reached, sum_light}
 use Rattle.game.proofs.Progress.{Playing, State, Carrying, admitted_size, led_number, settled_state, settled_loads}
@@ -48,9 +48,9 @@ not_both Forfeit a b = b
 
 -- a settlement that nothing speaks against is accepted
 accepts : (c : Certificate) (w : Waiting) (token : Item) (bytes loads : List ℕ) → token.size ≡ w.size → settling c w w.size (length bytes) loads ≡ Ok tt
-    → (takes : List ℕ → ℕ → ℕ → Bool) (answer : Result Next Declined) (token' : Item) (bytes' loads' : List ℕ) → Settles c takes w token bytes loads answer token' bytes' loads' → is_ok answer ≡ true
-accepts c w token bytes loads same e takes (Ok next) token' bytes' loads' h = refl
-accepts c w token bytes loads same e takes (Err d) token' bytes' loads' h =
+    → (answer : Result Next Declined) (token' : Item) (bytes' loads' : List ℕ) → Settles c w token bytes loads answer token' bytes' loads' → is_ok answer ≡ true
+accepts c w token bytes loads same e (Ok next) token' bytes' loads' h = refl
+accepts c w token bytes loads same e (Err d) token' bytes' loads' h =
     let clash : Ok tt ≡ Err d.fault = sym e ∙ (ap (λ s. settling c w s (length bytes) loads) (sym same) ∙ h.faulty) in
     let z : ◌≡◌ {A = ℕ} 0 1 = cc in
     absurd (omega arith)
@@ -189,7 +189,6 @@ module _ (c : Certificate) (lawful : Lawful c) (winning : Winning c) where
     along (settle {cs} {w} {now} token bytes b next token' bytes' now' run h) = settle_step cs w now token bytes b next token' bytes' now' (along run) h
     along (refuse {cs} {w} {now} token bytes f w' token' bytes' now' run h) =
         refuse_step cs w w' now now' (along run) h.match_kept h.loads_kept
-    along (stay {cs} {w} {now} token d token' run h) = refuse_step cs w d.waiting now now (along run) (ap (λ (x : Declined). x.waiting) h.1) refl
     along (ask {cs} {x} {now} n run e) = ((along run).0, (e ∙ (along run).0.number, (along run).1))
     along (look {cs} {w} {now} s run e) =
         let all = (kept cs (as_waiting w) now (along run)).placed in

@@ -17,7 +17,7 @@ use Rattle.players.specs.Placing.{declined, raised}
 use Rattle.game.specs.declared.matches.Waiting.{Waiting}
 use Rattle.game.specs.declared.matches.Ended.{Ended}
 use Rattle.game.specs.Turns.{Match, as_ready, as_waiting, as_ended, number_of}
-use Rattle.game.specs.Settling.{settling, settling_rules, row_rule, row_loads_rule, item_rule, record_rule, bears, place_of, row_after, next_row, led, leads, ready_at}
+use Rattle.game.specs.Settling.{settling, settling_rules, row_rule, loads_rule, item_rule, record_rule, bears, place_of, row_after, next_row, led, leads, ready_at}
 use Rattle.game.specs.Law.{IsOver, reached}
 
 -- the match goes on: items of the classes ks were placed, row i stands for that, and no bin carries the target
@@ -55,8 +55,8 @@ Carrying c load loads = (length loads ≡ c.bins) × ((b : ℕ) → b < c.bins �
 pub admitted_size : (c : Certificate) (w : Waiting) (s len : ℕ) (loads : List ℕ) → settling c w s len loads ≡ Ok tt → s ≡ w.size
 admitted_size c w s len loads e =
     let all = next_after_ok (judge_all (settling_rules c w s len loads)) (declined loads s) tt e in
-    let first = passed (row_rule c w) (row_loads_rule c w loads ∷ (item_rule w s ∷ (record_rule w len ∷ []))) all.0 in
-    let second = passed (row_loads_rule c w loads) (item_rule w s ∷ (record_rule w len ∷ [])) first.1 in
+    let first = passed (row_rule c w) (loads_rule c w loads ∷ (item_rule w s ∷ (record_rule w len ∷ []))) all.0 in
+    let second = passed (loads_rule c w loads) (item_rule w s ∷ (record_rule w len ∷ [])) first.1 in
     let third = passed (item_rule w s) (record_rule w len ∷ []) second.1 in
     eqb-true s w.size (not-false (eqb s w.size) (whole_passed 36 (not (eqb s w.size)) third.0))
 

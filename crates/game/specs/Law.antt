@@ -1,5 +1,5 @@
 -- The law of a match: what holds after every list of offers, settlements and questions on it.
-use Rattle.std.specs.Prelude.{◌≡◌, ℕ, ◌+◌, ◌*◌, ◌<◌, ◌≤◌, Bool, true, cond, List, [], ◌∷◌, ◌++◌, length, is_ok, Err, Result, ◌==◌, slice_index}
+use Rattle.std.specs.Prelude.{◌≡◌, ℕ, ◌+◌, ◌*◌, ◌<◌, ◌≤◌, true, cond, List, [], ◌∷◌, ◌++◌, length, is_ok, Result, ◌==◌, slice_index}
 use Rattle.certificate.specs.declared.fault.Fault.{Fault}
 use Rattle.certificate.specs.Certificates.{Certificate}
 use Rattle.plan.specs.Plan.{verdict, bound}
@@ -12,7 +12,7 @@ use Rattle.game.specs.declared.matches.Declined.{Declined}
 use Rattle.game.specs.declared.matches.Item.{Item}
 use Rattle.game.specs.declared.matches.Next.{Next}
 use Rattle.game.specs.declared.matches.Next.TheVariants.{GoesOn, Ends}
-use Rattle.game.specs.Turns.{Match, as_ready, as_waiting, as_ended, number_of, Tells, Shows, Offers, Forfeits}
+use Rattle.game.specs.Turns.{Match, as_ready, as_waiting, as_ended, number_of, Tells, Shows, Offers}
 use Rattle.game.specs.Settling.{Settled, Refused, Settles}
 
 -- a call and what it gave
@@ -21,7 +21,7 @@ pub data Call : Type 0 where
   gave : ℕ → Call
   -- a settlement was accepted: an item of this size went into this bin
   put : ℕ → ℕ → Call
-  -- a settlement or a forfeit was declined
+  -- a settlement was declined
   refused : Fault → Call
   -- a question for the number of accepted settlements was answered
   told : ℕ → Call
@@ -34,8 +34,7 @@ reached (GoesOn m) = as_ready m
 reached (Ends m) = as_ended m
 
 -- Lists of calls from a match m and a player of these loads, newest call first, with the match and the loads that they
--- lead to. Every settlement is with this certificate's store and this player; the item and the record may be any. A forfeit that
--- is declined is a call too; one that is accepted ends the match, and the law says nothing of it.
+-- lead to. Every settlement is with this certificate's store and this player; the item and the record may be any.
 pub data Run (c : Certificate) (m : Ready) (loads : List ℕ) : List Call → Match → List ℕ → Type 0 where
   opened : Run c m loads [] (as_ready m) loads
   offer : {cs : List Call} {r : Ready} {now : List ℕ} (w : Waiting) (token : Item) → Run c m loads cs (as_ready r) now → Offers r w token
@@ -46,9 +45,6 @@ pub data Run (c : Certificate) (m : Ready) (loads : List ℕ) : List Call → Ma
   refuse : {cs : List Call} {w : Waiting} {now : List ℕ} (token : Item) (bytes : List ℕ) (f : Fault) (w' : Waiting) (token' : Item) (bytes' now' : List ℕ)
       → Run c m loads cs (as_waiting w) now → Refused c w token bytes now f w' token' bytes' now'
       → Run c m loads (refused f ∷ cs) (as_waiting w') now'
-  stay : {cs : List Call} {w : Waiting} {now : List ℕ} (token : Item) (d : Declined) (token' : Item)
-      → Run c m loads cs (as_waiting w) now → Forfeits w token (Err d) token'
-      → Run c m loads (refused d.fault ∷ cs) (as_waiting d.waiting) now
   ask : {cs : List Call} {x : Match} {now : List ℕ} (n : ℕ) → Run c m loads cs x now → Tells x n → Run c m loads (told n ∷ cs) x now
   look : {cs : List Call} {w : Waiting} {now : List ℕ} (s : ℕ) → Run c m loads cs (as_waiting w) now → Shows w s → Run c m loads (shown s ∷ cs) (as_waiting w) now
 
@@ -151,8 +147,8 @@ abbrev pub Welcome : Certificate → List Call → Match → List ℕ → Type 0
 Welcome c cs (as_ready m) loads = Unit {0}
 Welcome c cs (as_waiting m) loads =
     (token : Item) (bytes : List ℕ) → token.size ≡ m.size → 2 * accepted cs + 2 ≤ length bytes
-    → (takes : List ℕ → ℕ → ℕ → Bool) (answer : Result Next Declined) (token' : Item) (bytes' loads' : List ℕ)
-    → Settles c takes m token bytes loads answer token' bytes' loads'
+    → (answer : Result Next Declined) (token' : Item) (bytes' loads' : List ℕ)
+    → Settles c m token bytes loads answer token' bytes' loads'
     → is_ok answer ≡ true
 Welcome c cs (as_ended m) loads = Unit {0}
 

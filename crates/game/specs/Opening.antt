@@ -14,8 +14,8 @@ abbrev pub start_rule : Certificate → Rule
 start_rule c = whole 31 (lacks c (empty_loads c) (empty_counts c))
 
 -- 32: the player's number of bins differs
-abbrev pub same_bins_rule : Certificate → List ℕ → Rule
-same_bins_rule c loads = whole 32 (not (length loads == c.bins))
+abbrev pub bins_rule : Certificate → List ℕ → Rule
+bins_rule c loads = whole 32 (not (length loads == c.bins))
 
 -- whether bin b carries something
 abbrev pub loaded : List ℕ → ℕ → ℕ → Bool
@@ -26,7 +26,7 @@ abbrev pub empty_rule : List ℕ → Rule
 empty_rule loads = record { number = 33; rows = length loads; places = 1; broken = loaded loads }
 
 abbrev pub opening_rules : Certificate → List ℕ → List Rule
-opening_rules c loads = start_rule c ∷ (same_bins_rule c loads ∷ (empty_rule loads ∷ []))
+opening_rules c loads = start_rule c ∷ (bins_rule c loads ∷ (empty_rule loads ∷ []))
 
 -- the row of the empty position
 abbrev pub start_row : Certificate → Option ℕ

@@ -26,8 +26,8 @@ abbrev pub row_rule : Certificate → Waiting → Rule
 row_rule c w = whole 34 (not (still_offers c w.row w.size))
 
 -- 35: the row's loads do not descend or are not the player's in some order
-abbrev pub row_loads_rule : Certificate → Waiting → List ℕ → Rule
-row_loads_rule c w loads = whole 35 (not (row_is (row c w.row).loads loads))
+abbrev pub loads_rule : Certificate → Waiting → List ℕ → Rule
+loads_rule c w loads = whole 35 (not (row_is (row c w.row).loads loads))
 
 -- 36: the item's size is not the one shown
 abbrev pub item_rule : Waiting → ℕ → Rule
@@ -38,7 +38,7 @@ abbrev pub record_rule : Waiting → ℕ → Rule
 record_rule w len = whole 37 (nat_le (len / 2) w.count)
 
 abbrev pub settling_rules : Certificate → Waiting → ℕ → ℕ → List ℕ → List Rule
-settling_rules c w s len loads = row_rule c w ∷ (row_loads_rule c w loads ∷ (item_rule w s ∷ (record_rule w len ∷ [])))
+settling_rules c w s len loads = row_rule c w ∷ (loads_rule c w loads ∷ (item_rule w s ∷ (record_rule w len ∷ [])))
 
 -- whether an item of size s is settled with a record of this length and a player of these loads, or the fault:
 -- 34 to 37, then what placing declines
@@ -71,9 +71,9 @@ next_row c i v = row_after c i (place_of c i v)
 -- the match is over where bin b carries the target or more; else it goes on at the row that follows;
 -- it is an escape where there is none
 abbrev pub led : Certificate → ℕ → ℕ → ℕ → Bool → Option ℕ → Next
-led c n b load true found = Ends (record { outcome = Over; bin = b; load = load; count = n })
-led c n b load false None = Ends (record { outcome = Escape; bin = b; load = load; count = n })
-led c n b load false (Some i) = GoesOn (ready_at c i n)
+led c n b v true found = Ends (record { outcome = Over; bin = b; load = v; count = n })
+led c n b v false None = Ends (record { outcome = Escape; bin = b; load = v; count = n })
+led c n b v false (Some i) = GoesOn (ready_at c i n)
 
 -- after n settlements, this one counted, where an item of size s went from row i into bin b, which carried v before
 abbrev pub leads : Certificate → ℕ → ℕ → ℕ → ℕ → ℕ → Next
@@ -100,7 +100,12 @@ pub record Refused (c : Certificate) (w : Waiting) (token : Item) (bytes loads :
   pub record_kept : bytes' ≡ bytes
   pub loads_kept : loads' ≡ loads
 
--- a settlement is accepted, with a bin that the player's rule takes, or refused
-abbrev pub Settles : Certificate → (List ℕ → ℕ → ℕ → Bool) → Waiting → Item → List ℕ → List ℕ → Result Next Declined → Item → List ℕ → List ℕ → Type 0
-Settles c takes w token bytes loads (Ok next) token' bytes' loads' = (b : ℕ) × (takes loads token.size b ≡ true) × Settled c w token bytes loads b next token' bytes' loads'
-Settles c takes w token bytes loads (Err d) token' bytes' loads' = Refused c w token bytes loads d.fault d.waiting token' bytes' loads'
+-- a settlement is accepted, with the bin that the player chose, or refused
+abbrev pub Settles : Certificate → Waiting → Item → List ℕ → List ℕ → Result Next Declined → Item → List ℕ → List ℕ → Type 0
+Settles c w token bytes loads (Ok next) token' bytes' loads' = (b : ℕ) × Settled c w token bytes loads b next token' bytes' loads'
+Settles c w token bytes loads (Err d) token' bytes' loads' = Refused c w token bytes loads d.fault d.waiting token' bytes' loads'
+
+-- the same, where the bin is one that the player's rule takes
+abbrev pub SettlesBy : Certificate → (List ℕ → ℕ → ℕ → Bool) → Waiting → Item → List ℕ → List ℕ → Result Next Declined → Item → List ℕ → List ℕ → Type 0
+SettlesBy c takes w token bytes loads (Ok next) token' bytes' loads' = (b : ℕ) × (takes loads token.size b ≡ true) × Settled c w token bytes loads b next token' bytes' loads'
+SettlesBy c takes w token bytes loads (Err d) token' bytes' loads' = Refused c w token bytes loads d.fault d.waiting token' bytes' loads'

@@ -36,7 +36,7 @@ module _ (c : Certificate) (takes : List ℕ → ℕ → ℕ → Bool) (first : 
       let offered : Run c first empty (gave m.size ∷ cs) (as_waiting (waits m)) loads = offer (waits m) (offered_by m) run (refl, refl) in
       let kept : KeptAfter c (gave m.size ∷ cs) (as_waiting (waits m)) loads = keeps (gave m.size ∷ cs) (as_waiting (waits m)) loads offered in
       let room = below (accepted cs) (bound c) kept.few kept.last in
-      absurd (false≢true (kept.welcome (offered_by m) bytes refl (omega arith) takes (Err (record { fault = f; waiting = waits m })) (offered_by m) bytes loads
+      absurd (false≢true (kept.welcome (offered_by m) bytes refl (omega arith) (Err (record { fault = f; waiting = waits m })) (offered_by m) bytes loads
       (record { faulty = t.0; match_kept = refl; item_kept = refl; record_kept = refl; loads_kept = refl })))
   turns_win {m} {loads} {bytes} {loads'} {bytes'} {cs = cs} long run (ends e t) =
       let offered : Run c first empty (gave m.size ∷ cs) (as_waiting (waits m)) loads = offer (waits m) (offered_by m) run (refl, refl) in

@@ -1,6 +1,6 @@
 // Best fit: the fullest bin that stays below a target.
 ghost use Rattle.std.specs.Prelude.{◌≡◌, ◌+◌, ◌<◌, true, ◌&&◌, length, IfSome, IfOk, nat_lt};
-ghost use Rattle.players.specs.Placing.{by_choice, Placed, PlacedBy, MadeEmpty};
+ghost use Rattle.players.specs.Placing.{answered, by_choice, Placed, PlacedBy, MadeEmpty};
 ghost use Rattle.players.specs.Choosing.{below, fuller, fullest_below, best_fit};
 ghost use Rattle.players.specs.Fitting.{BestFits};
 ghost use Rattle.players.specs.Held.{held};
@@ -69,7 +69,7 @@ impl BestFit {
     // Places an item by the rule.
     fn put(&mut self, size: u16) -> Result<usize, Fault>
         ensures by { PlacedBy (best_fit self.old.target) (BestFits self.old.target) (held self.old.bins) size result (held self.new.bins) }
-        ensures same { self.new.target ≡ self.old.target }
+        ensures kept { self.new.target ≡ self.old.target }
     {
         let fullest = fullest_below(self.bins.loads(), size, self.target);
         self.bins.place(size, fullest)
@@ -96,9 +96,10 @@ impl Player for BestFit {
     fn place(&mut self, size: u16) -> Result<usize, Fault>
         ensures placed { Placed (held self.old.bins) size result (held self.new.bins) }
         ensures ruled { IfOk result (λ b. by_choice (best_fit self.old.target) (held self.old.bins) size b ≡ true) }
-        ensures kept { by_choice (best_fit self.new.target) ≡ by_choice (best_fit self.old.target) }
-        ensures by { PlacedBy (best_fit self.old.target) (BestFits self.old.target) (held self.old.bins) size result (held self.new.bins) }
-        ensures same { self.new.target ≡ self.old.target }
+        ensures rule_kept { by_choice (best_fit self.new.target) ≡ by_choice (best_fit self.old.target) }
+        ensures chosen { result ≡ answered (held self.old.bins) size (best_fit self.old.target (held self.old.bins) size) }
+        ensures fits { IfOk result (BestFits self.old.target (held self.old.bins) size) }
+        ensures kept { self.new.target ≡ self.old.target }
     {
         self.put(size)
     }

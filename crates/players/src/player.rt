@@ -25,7 +25,7 @@ pub trait Player {
     fn place(&mut self, size: u16) -> Result<usize, Fault>
         ensures placed { Placed (loads self.old) size result (loads self.new) }
         ensures ruled { IfOk result (λ b. takes self.old (loads self.old) size b ≡ true) }
-        ensures kept { takes self.new ≡ takes self.old };
+        ensures rule_kept { takes self.new ≡ takes self.old };
 
     ghost sized: { (p : Self) → (least_bins ≤ length (loads p)) × (length (loads p) ≤ most_bins) };
 

@@ -1,6 +1,6 @@
 // Threshold: the lowest bin that stays within a limit.
 ghost use Rattle.std.specs.Prelude.{◌≡◌, ◌+◌, true, IfOk, nat_le};
-ghost use Rattle.players.specs.Placing.{by_choice, Placed, PlacedBy, MadeEmpty};
+ghost use Rattle.players.specs.Placing.{answered, by_choice, Placed, PlacedBy, MadeEmpty};
 ghost use Rattle.players.specs.Choosing.{lowest_within, threshold as threshold_bin};
 ghost use Rattle.players.specs.Fitting.{FitsWithin};
 ghost use Rattle.players.specs.Held.{held};
@@ -49,7 +49,7 @@ impl Threshold {
     // Places an item by the rule.
     fn put(&mut self, size: u16) -> Result<usize, Fault>
         ensures by { PlacedBy (threshold_bin self.old.limit) (FitsWithin self.old.limit) (held self.old.bins) size result (held self.new.bins) }
-        ensures same { self.new.limit ≡ self.old.limit }
+        ensures kept { self.new.limit ≡ self.old.limit }
     {
         let lowest = lowest_within(self.bins.loads(), size, u16::from(self.limit));
         self.bins.place(size, lowest)
@@ -76,9 +76,10 @@ impl Player for Threshold {
     fn place(&mut self, size: u16) -> Result<usize, Fault>
         ensures placed { Placed (held self.old.bins) size result (held self.new.bins) }
         ensures ruled { IfOk result (λ b. by_choice (threshold_bin self.old.limit) (held self.old.bins) size b ≡ true) }
-        ensures kept { by_choice (threshold_bin self.new.limit) ≡ by_choice (threshold_bin self.old.limit) }
-        ensures by { PlacedBy (threshold_bin self.old.limit) (FitsWithin self.old.limit) (held self.old.bins) size result (held self.new.bins) }
-        ensures same { self.new.limit ≡ self.old.limit }
+        ensures rule_kept { by_choice (threshold_bin self.new.limit) ≡ by_choice (threshold_bin self.old.limit) }
+        ensures chosen { result ≡ answered (held self.old.bins) size (threshold_bin self.old.limit (held self.old.bins) size) }
+        ensures fits { IfOk result (FitsWithin self.old.limit (held self.old.bins) size) }
+        ensures kept { self.new.limit ≡ self.old.limit }
     {
         self.put(size)
     }

@@ -2,7 +2,7 @@
 ghost use Rattle.std.specs.Prelude.{◌≡◌, ◌+◌, ◌/◌, ◌<◌, length};
 ghost use Rattle.certificate.specs.Certificates.{row_count};
 ghost use Rattle.certificate.specs.Rules.{judge_all};
-ghost use Rattle.game.specs.Settling.{settling_rules, leads, entered, Settles};
+ghost use Rattle.game.specs.Settling.{settling_rules, leads, entered, Settles, SettlesBy};
 
 use super::forfeiting::OTHER_ITEM;
 use super::{Declined, Ended, Item, Next, Outcome, Ready, Waiting};
@@ -93,8 +93,9 @@ pub fn settle<S: Store, P: Player>(
     player: &mut P,
     record: &mut [u8],
 ) -> Result<Next, Declined>
-    ensures settled { Settles (S.Store.meaning store.now) (P.Player.takes player.old) waiting item.old «record».old (P.Player.loads player.old) result item.new «record».new (P.Player.loads player.new) }
-    ensures kept { P.Player.takes player.new ≡ P.Player.takes player.old }
+    ensures settled { Settles (S.Store.meaning store.now) waiting item.old «record».old (P.Player.loads player.old) result item.new «record».new (P.Player.loads player.new) }
+    ensures ruled { SettlesBy (S.Store.meaning store.now) (P.Player.takes player.old) waiting item.old «record».old (P.Player.loads player.old) result item.new «record».new (P.Player.loads player.new) }
+    ensures rule_kept { P.Player.takes player.new ≡ P.Player.takes player.old }
 {
     let size = item.size;
     if let Err(fault) = admit(&waiting, size, store, player, record.len()) {

@@ -16,5 +16,5 @@ returns c =
     record {
       by = placed_by (book_choice book) (ByBook book) (held bins) c.args.size c.place.result (held c.place.new.self) c.place.ensures.placed chosen (book_says book (held bins) c.args.size self.known self.level some);
       wide = λ k high. chosen ∙ ap (answered (held bins) c.args.size) (wide_choice book self.pages.octets (held bins) c.args.size k high);
-      same = refl;
+      kept = refl;
     }

@@ -14,4 +14,4 @@ returns c =
     let size = c.args.size in
     let some : 0 < length (held bins) = omega (arith, bins.slotted, bins.sized.0) in
     let chosen : c.place.result ≡ answered (held bins) size (threshold limit (held bins) size) = search rules in
-    record { by = placed_by (threshold limit) (FitsWithin limit) (held bins) size c.place.result (held c.place.new.self) c.place.ensures.placed chosen (threshold_says limit (held bins) size some); same = refl }
+    record { by = placed_by (threshold limit) (FitsWithin limit) (held bins) size c.place.result (held c.place.new.self) c.place.ensures.placed chosen (threshold_says limit (held bins) size some); kept = refl }

@@ -2,6 +2,7 @@ use crate::two_bins::{FOUR_ROWS, TWO_BINS};
 use certificate::store::Store;
 use flat::FlatTable;
 use sheet::judgement::judge_file;
+use sheet::text::sheet_of;
 use std::alloc::{AllocError, Global};
 use std::test::Fail;
 
@@ -10,7 +11,7 @@ type Said = (u8, usize, usize);
 
 fn said(file: Vec<u8>) -> Said {
     match judge_file(file) {
-        Ok(checked) => (0, checked.verdict.rows, checked.verdict.bound),
+        Ok(verdict) => (0, verdict.rows, verdict.bound),
         Err(fault) => (fault.number, fault.first, fault.second),
     }
 }
@@ -185,6 +186,16 @@ fn questions(rt: HostRuntime) -> Result<(), Fail> {
         "a count above a byte"
     );
     assert_eq!(rt; table.find(&[3, 3], &[3, 3, 3]), None, "past the last row");
+    Ok(())
+}
+
+#[test]
+fn sheets(rt: HostRuntime) -> Result<(), Fail> {
+    let heap = rt.alloc();
+    let accepted = sheet_of(heap, TWO_BINS.to_vec(heap)?)?;
+    assert_eq!(rt; accepted.as_str(), "accepted 5 6\n");
+    let refused = sheet_of(heap, FOUR_ROWS.to_vec(heap)?)?;
+    assert_eq!(rt; refused.as_str(), "refused 26 3 1\n");
     Ok(())
 }
 

@@ -57,6 +57,20 @@ fn threshold(rt: HostRuntime) -> Result<(), Fail> {
     Ok(())
 }
 
+// A short record, another number of bins, and a player that has moved on.
+#[test]
+fn declined(rt: HostRuntime) -> Result<(), Fail> {
+    let table = two_bins(rt.alloc(), &[])?;
+    let mut player = Threshold::new(2, 1)?;
+    let short = play(&table, &mut player, &mut [0; 5]);
+    assert_eq!(rt; short.is_ok(), false);
+    let other = open_match(&table, &BestFit::new(3, 4)?);
+    assert_eq!(rt; other.is_ok(), false);
+    let moved = open_match(&table, &player);
+    assert_eq!(rt; moved.is_ok(), false);
+    Ok(())
+}
+
 // Every fault of opening, with its place.
 #[test]
 fn opening(rt: HostRuntime) -> Result<(), Fail> {

@@ -44,6 +44,12 @@ impl Numbers {
         &self.items[0..self.length]
     }
 
+    pub fn len(&self) -> usize
+        ensures { result ≡ self.now.length }
+    {
+        self.length
+    }
+
     fn push(&mut self, number: u32)
         requires { self.old.length < 32 }
         ensures items { take self.new.length self.new.items ≡ take self.old.length self.old.items ++ number ∷ [] }

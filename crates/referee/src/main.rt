@@ -1,11 +1,9 @@
-// Reads certificate.dat, programme.dat and, where a match asks for it, book.dat, and prints the sheet.
+// Reads certificate.dat, checks it as a flat table, and prints the sheet.
 #![tactic(auto)]
 
 ghost use Rattle.std.specs.Prelude.{◌≤◌, IfOk, vec_len};
 
-use programme::Programme;
-use sheet::judgement::judge_file;
-use sheet::text::{sheet_of, wants_book};
+use sheet::text::sheet_of;
 use std::fs::File;
 use std::io;
 use std::io::{ErrorKind, Read};
@@ -41,13 +39,7 @@ fn bytes_or_none(rt: &HostRuntime, path: &str) -> io::Result<Vec<u8>>
 }
 
 fn main(rt: HostRuntime) -> io::Result<()> {
-    let judged = judge_file(bytes_or_none(&rt, "certificate.dat")?);
-    let programme = Programme::new(bytes_or_none(&rt, "programme.dat")?);
-    let book = if wants_book(&programme) {
-        bytes_or_none(&rt, "book.dat")?
-    } else {
-        Vec::new(rt.alloc())
-    };
-    let sheet = sheet_of(rt.alloc(), judged, &programme, &book)?;
+    let certificate = bytes_or_none(&rt, "certificate.dat")?;
+    let sheet = sheet_of(rt.alloc(), certificate)?;
     print!(rt; "{sheet}")
 }

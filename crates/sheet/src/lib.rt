@@ -1,7 +1,5 @@
-// What the referee says of a certificate, a programme and a book: as values, and as the printed sheet.
+// What the referee says of a certificate's bytes: as a value, and as the printed sheet.
 #![tactic(auto)]
 
 pub mod judgement;
-mod matches;
-mod stop;
 pub mod text;

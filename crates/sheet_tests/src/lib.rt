@@ -5,8 +5,8 @@
 mod tests {
     use cases::two_bins::{FOUR_ROWS, TWO_BINS};
     use programme::{Entrant, Programme};
-    use sheet::judgement::judge_file;
-    use sheet::text::sheet_of;
+    use match_sheet::judgement::judge_file;
+    use match_sheet::text::sheet_of;
     use std::alloc::{AllocError, Global};
     use std::test::Fail;
 

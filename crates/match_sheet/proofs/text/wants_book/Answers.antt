@@ -1,8 +1,8 @@
 use Rattle.std.proofs.Common.{vec_items, sym, ◌∙◌}
 use Rattle.layout.specs.Layout.{certificate_of}
 use Rattle.sheet.specs.Sheet.{judgement}
-use Rattle.sheet.proofs.Idle.{sheet_idle}
-use Rattle.sheet.proofs.text.wants_book.Goals as goal
+use Rattle.match_sheet.proofs.Idle.{sheet_idle}
+use Rattle.match_sheet.proofs.text.wants_book.Goals as goal
 
 pub returns : goal.returns
 returns c =

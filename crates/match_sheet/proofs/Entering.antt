@@ -5,9 +5,9 @@ use Rattle.certificate.specs.Certificates.{Certificate}
 use Rattle.certificate.specs.Rules.{next_after}
 use Rattle.play.specs.Playing.{played}
 use Rattle.programme.specs.declared.Entrant.{Entrant}
-use Rattle.sheet.specs.declared.stop.Stop.{Stop}
-use Rattle.sheet.specs.Saying.{Says}
-use Rattle.sheet.specs.Sheet.{blank_record, lines_played, match_by, match_of}
+use Rattle.match_sheet.specs.declared.stop.Stop.{Stop}
+use Rattle.match_sheet.specs.Saying.{Says}
+use Rattle.match_sheet.specs.Sheet.{blank_record, lines_played, match_by, match_of}
 
 module _ {S : Type 0} (bytes : S → List ℕ) (c : Certificate) (r : Result S Stop) where
   -- a player that was made, judged by what it was made of, plays from loads of 0

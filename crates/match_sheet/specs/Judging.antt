@@ -3,7 +3,7 @@ use Rattle.std.specs.Prelude.{◌≡◌, ℕ, List, Ok, Err, Result}
 use Rattle.certificate.specs.declared.fault.Fault.{Fault}
 use Rattle.layout.specs.Layout.{certificate_of}
 use Rattle.flat.specs.Tables.{table_meant}
-use Rattle.sheet.specs.declared.judgement.Checked.{Checked}
+use Rattle.match_sheet.specs.declared.judgement.Checked.{Checked}
 use Rattle.sheet.specs.Sheet.{judgement}
 
 -- the table means what the file says, and the verdict, or the fault, is the file's

@@ -1,7 +1,7 @@
 -- The text of a sheet's matches, as it grows by one match after another.
 use Rattle.std.proofs.Common.{◌≡◌, ℕ, suc, ◌+◌, ◌-◌, ◌<◌, Bool, true, false, cond, List, [], ◌++◌, is_ok, sym, refl, ap, ◌∙◌, append_assoc, append-nil, arith}
 use Rattle.certificate.specs.Certificates.{Certificate}
-use Rattle.sheet.specs.Sheet.{match_result, match_text, matches_from}
+use Rattle.match_sheet.specs.Sheet.{match_result, match_text, matches_from}
 
 module _ (c : Certificate) (programme book : List ℕ) where
   -- the matches from k on: match k, and the others where it was not refused

@@ -1,6 +1,6 @@
 // Why a match has no lines.
 ghost use Rattle.std.specs.Prelude.{◌≡◌};
-ghost use Rattle.sheet.specs.declared.stop.Stop.TheVariants.{Refused, Memory};
+ghost use Rattle.match_sheet.specs.declared.stop.Stop.TheVariants.{Refused, Memory};
 
 use books::book::RefusedBook;
 use certificate::fault::Fault;

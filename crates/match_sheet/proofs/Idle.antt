@@ -8,7 +8,7 @@ use Rattle.plan.specs.declared.verdict.Verdict.{Verdict}
 use Rattle.programme.specs.declared.Entrant.{Entrant}
 use Rattle.programme.specs.declared.Entrant.TheVariants.{BestFit, Threshold, Book}
 use Rattle.programme.specs.Programmes.{match_count, entrant_of, programme_rule, is_book, book_at, names_book}
-use Rattle.sheet.specs.Sheet.{match_entered, match_result, lines_or_refusal, match_text, matches_from, programme_text, sheet_after}
+use Rattle.match_sheet.specs.Sheet.{match_entered, match_result, lines_or_refusal, match_text, matches_from, programme_text, sheet_after}
 use Rattle.lines.specs.Lines.{accepted_line, match_line}
 
 -- an entrant that is not the book does not ask for it

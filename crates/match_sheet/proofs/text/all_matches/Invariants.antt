@@ -1,7 +1,7 @@
 use Rattle.std.proofs.Common.{◌≡◌, ◌+◌, ◌-◌, ◌++◌, vec_items, string_bytes}
 use Rattle.programme.specs.Programmes.{match_count}
-use Rattle.sheet.specs.Sheet.{matches_from}
-use Rattle.sheet.proofs.text.all_matches.Given as goal
+use Rattle.match_sheet.specs.Sheet.{matches_from}
+use Rattle.match_sheet.proofs.text.all_matches.Given as goal
 
 -- the text so far, with the matches that are left, is the text of all
 abbrev pub invariant-loop-number : goal.invariant-loop-number

@@ -1,7 +1,7 @@
 use Rattle.std.proofs.Common.{◌≡◌, Ok, sym, ap, ◌∙◌}
 use Rattle.std.proofs.lemmas.Result.{err_from_is_err_and}
-use Rattle.sheet.specs.Sheet.{lines_played}
-use Rattle.sheet.proofs.matches.played_match.Goals as goal
+use Rattle.match_sheet.specs.Sheet.{lines_played}
+use Rattle.match_sheet.proofs.matches.played_match.Goals as goal
 
 pub returns-in_err-ended : goal.returns-in_err-ended
 returns-in_err-ended g c choose e =

@@ -4,8 +4,8 @@ use Rattle.players.specs.Choosing.{best_fit, threshold}
 use Rattle.players.specs.Held.{held}
 use Rattle.books.specs.Books.{book_bins, book_judged, book_choice}
 use Rattle.programme.specs.declared.Entrant.TheVariants.{BestFit, Threshold, Book}
-use Rattle.sheet.proofs.Entering.{made_says, entrant_says}
-use Rattle.sheet.proofs.matches.entered_match.Goals as goal
+use Rattle.match_sheet.proofs.Entering.{made_says, entrant_says}
+use Rattle.match_sheet.proofs.matches.entered_match.Goals as goal
 
 pub returns-in_ok-new-in-BestFit : goal.returns-in_ok-new-in-BestFit
 returns-in_ok-new-in-BestFit g c =

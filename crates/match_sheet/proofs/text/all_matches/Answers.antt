@@ -1,8 +1,8 @@
 use Rattle.std.proofs.Common.{◌+◌, vec_items, string_bytes, sym, ◌∙◌, arith}
 use Rattle.programme.specs.Programmes.{match_count}
-use Rattle.sheet.specs.Sheet.{matches_from}
-use Rattle.sheet.proofs.Printing.{printed_on, printed_last}
-use Rattle.sheet.proofs.text.all_matches.Goals as goal
+use Rattle.match_sheet.specs.Sheet.{matches_from}
+use Rattle.match_sheet.proofs.Printing.{printed_on, printed_last}
+use Rattle.match_sheet.proofs.text.all_matches.Goals as goal
 
 pub returns-then-not-goes_on : goal.returns-then-not-goes_on
 returns-then-not-goes_on g c =

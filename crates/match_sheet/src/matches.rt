@@ -2,8 +2,8 @@
 ghost use Rattle.std.specs.Prelude.{◌≡◌, ℕ, ◌*◌, ◌≤◌, List, length, IfOk, string_bytes};
 ghost use Rattle.players.specs.Placing.{by_choice};
 ghost use Rattle.play.specs.Playing.{played};
-ghost use Rattle.sheet.specs.Saying.{Says};
-ghost use Rattle.sheet.specs.Sheet.{blank_record, lines_of, lines_played, match_of};
+ghost use Rattle.match_sheet.specs.Saying.{Says};
+ghost use Rattle.match_sheet.specs.Sheet.{blank_record, lines_of, lines_played, match_of};
 
 use crate::stop::Stop;
 use books::book::Book;

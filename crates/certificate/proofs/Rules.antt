@@ -1,8 +1,8 @@
 -- `judged` and `judge_all`: nothing is reported exactly where no place is broken, and what is reported is the least fault.
-use Rattle.std.proofs.Common.{◌≡◌, ℕ, zero, suc, ◌+◌, ◌<◌, ◌≤◌, Bool, true, false, cond, List, [], ◌∷◌, ◌++◌, is_some, Some, None, Ok, Err, Option, Result, unwrap_or, sym, refl, ap, ◌∙◌, subst, arith}
+use Rattle.std.proofs.Common.{◌≡◌, ℕ, ◌<◌, Bool, true, false, cond, List, [], ◌∷◌, ◌++◌, is_some, Some, Ok, Err, Result, unwrap_or, sym, refl, ap, ◌∙◌, arith}
 use Rattle.certificate.specs.declared.fault.Fault.{Fault}
 use Rattle.certificate.specs.Faults.{fault}
-use Rattle.certificate.specs.Rules.{Rule, whole, first, in_row, row_broken, reported, judged, judge_all, next_after}
+use Rattle.certificate.specs.Rules.{Rule, whole, in_row, row_broken, reported, judged, judge_all, next_after}
 use Rattle.certificate.proofs.Firsts.{first_none, first_some}
 
 -- a row is broken, at place j first, and no row before it is

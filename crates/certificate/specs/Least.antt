@@ -1,5 +1,5 @@
 -- What a judgement by a list of rules means, in words of order: the least broken (number, place, place).
-use Rattle.std.specs.Prelude.{◌≡◌, ℕ, ◌<◌, true, ◌⊎◌, List, [], ◌∷◌, Result, MatchResult}
+use Rattle.std.specs.Prelude.{◌≡◌, ◌<◌, true, ◌⊎◌, List, [], ◌∷◌, Result, MatchResult}
 use Rattle.certificate.specs.declared.fault.Fault.{Fault}
 use Rattle.certificate.specs.Rules.{Rule}
 

@@ -1,13 +1,13 @@
 -- Finding a position among ascending rows.
-use Rattle.std.proofs.Common.{◌≡◌, ℕ, ◌+◌, ◌-◌, ◌*◌, ◌<◌, ◌≤◌, ◌⊎◌, List, ◌++◌, length, get_or, Some, None, Option, sym, refl, ap, ◌∙◌, subst, inl, inr, arith}
+use Rattle.std.proofs.Common.{◌≡◌, ℕ, ◌-◌, ◌<◌, ◌≤◌, List, ◌++◌, length, get_or, None, Option, sym, refl, ap, ◌∙◌, subst, inl, inr, arith}
 use Rattle.std.proofs.lemmas.Bool.{cases_lt}
 use Rattle.std.proofs.lemmas.List.{length-append, get_or_append_left, get_or-append_right}
-use Rattle.certificate.specs.Certificates.{Certificate, class_count, row_count, row, load, count, position, same, Stands, stands, find_row}
+use Rattle.certificate.specs.Certificates.{Certificate, class_count, row_count, row, position, Stands, stands, find_row}
 use Rattle.certificate.specs.Lawful.{Lawful, most_count}
 use Rattle.certificate.proofs.Firsts.{first_like}
 use Rattle.certificate.proofs.Finding.{none_found, same_append}
 use Rattle.search.specs.Ascending.{has_key, row_with}
-use Rattle.layout.specs.Keys.{AboveByte, Unspelled}
+use Rattle.layout.specs.Keys.{Unspelled}
 
 module _ (c : Certificate) (lawful : Lawful c) (loads counts : List ℕ) where
   -- a position of another shape has no row

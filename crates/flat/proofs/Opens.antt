@@ -1,7 +1,7 @@
 -- How a flat table is opened: the file's frame first, then its rows.
-use Rattle.std.proofs.Common.{◌≡◌, ℕ, List, ◌++◌, Ok, Err, Result, sym, refl, ap, ◌∙◌, subst}
+use Rattle.std.proofs.Common.{◌≡◌, ℕ, List, Ok, Err, Result, sym, refl, ap, ◌∙◌, subst}
 use Rattle.certificate.specs.declared.fault.Fault.{Fault}
-use Rattle.certificate.specs.Rules.{Rule, judge_all, next_after}
+use Rattle.certificate.specs.Rules.{judge_all, next_after}
 use Rattle.certificate.specs.Certificates.{Certificate}
 use Rattle.certificate.specs.Least.{Judges}
 use Rattle.layout.specs.Layout.{frame_rules, certificate_of}

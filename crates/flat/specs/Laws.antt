@@ -1,26 +1,26 @@
 -- A file that keeps rules 1 to 11 means a lawful certificate, with positions that ascend.
-use Rattle.std.specs.Prelude.{◌≡◌, ℕ, ◌+◌, ◌-◌, ◌*◌, ◌<◌, ◌≤◌, Bool, true, false, cond, not, ◌&&◌, ◌||◌, ◌⊎◌, List, [], ◌∷◌, ◌++◌, map, length, drop, is_ok, Ok, Err, Result, ◌==◌, nat_le, nat_lt, slice_index, slice_index_or, refl}
+use Rattle.std.specs.Prelude.{◌≡◌, ℕ, ◌+◌, ◌-◌, ◌<◌, ◌≤◌, true, cond, not, List, [], ◌++◌, length, drop, is_ok, Ok, Err, Result, ◌==◌, nat_le, nat_lt, slice_index, slice_index_or, refl}
 use Rattle.std.specs.declared.cmp.Ordering.TheVariants.{Less}
 use Rattle.std.proofs.Common.{arith, sym, ap, subst, ◌∙◌, inl, inr, length-take}
 use Rattle.std.specs.List.{AllByRecursion}
-use Rattle.std.proofs.lemmas.Bool.{ltb-false, leb-false, eqb-false, ne_eqb, not-false, and_cases, or_parts, cases_lt, cases_eq, cases_order, both_ways, false≢true}
+use Rattle.std.proofs.lemmas.Bool.{ltb-false, leb-false, ne_eqb, not-false, and_cases, or_parts, cases_lt, cases_order, both_ways, false≢true}
 use Rattle.std.proofs.lemmas.List.{get_or_past}
 use Rattle.std.proofs.lemmas.List.FromFn.{length-map-range_with_len}
 use Rattle.certificate.specs.declared.fault.Fault.{Fault}
-use Rattle.certificate.specs.Rules.{Rule, judge_all}
+use Rattle.certificate.specs.Rules.{judge_all}
 use Rattle.certificate.specs.Certificates.{Certificate, Row, no_row, class_count, row_count, row, size, load, count, offered, packed, position}
 use Rattle.certificate.specs.Lawful.{Lawful, most_count}
-use Rattle.certificate.specs.Contents.{size_before, size_wrong, load_high, offer_unknown, sizes_rule, loads_rule, offers_rule}
+use Rattle.certificate.specs.Contents.{size_before}
 use Rattle.certificate.proofs.Judged.{Holds, hold_from_judge_all}
 use Rattle.search.specs.Ascending.{standing, precedes, Ascending}
 use Rattle.search.proofs.Orders.{not_before_itself}
 use Rattle.search.proofs.Halving.{earlier}
 use Rattle.layout.specs.declared.header.Header.{Header}
-use Rattle.layout.specs.Layout.{byte, header_of, header_length, position_length, position_start, answer_start, packed_start, body_length, part, packed_of, row_of, certificate_of}
+use Rattle.layout.specs.Layout.{byte, header_of, position_start, packed_start, part, packed_of, row_of, certificate_of}
 use Rattle.layout.proofs.Frames.{Framed}
 use Rattle.layout.proofs.Offsets.{position_within, packed_within}
 use Rattle.layout.proofs.Meanings.{part_length, part_at, row_is, row_count_is, class_count_is, packed_list}
-use Rattle.flat.specs.Flat.{out_of_order, ascends_rule, table_rules}
+use Rattle.flat.specs.Flat.{table_rules}
 
 -- the test says that nothing was refused
 pub passed_from_test : (a : Result (Unit {0}) Fault) → is_ok a ≡ true → a ≡ Ok tt

@@ -4,7 +4,6 @@ use Rattle.std.specs.Prelude.{vec_items}
 use Rattle.certificate.specs.Certificates.{row_count, position}
 use Rattle.certificate.specs.Lawful.{Lawful}
 use Rattle.search.specs.Ascending.{Ascending}
-use Rattle.layout.proofs.Frames.{Framed}
 use Rattle.flat.specs.declared.flat_table.FlatTable.{FlatTable}
 use Rattle.flat.specs.Tables.{table_meant}
 use Rattle.flat.specs.Laws.{flat_lawful, positions_ascend}

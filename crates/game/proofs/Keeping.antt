@@ -2,7 +2,7 @@
 use Rattle.std.proofs.Common.{◌≡◌, ℕ, ◌+◌, ◌*◌, ◌/◌, ◌<◌, ◌≤◌, Bool, true, false, not, ◌||◌, eqb, ltb, leb, List, [], ◌∷◌, ◌++◌, map, length, get_or, is_ok, Ok, Err, sum, Result, sym, refl, ap, ◌∙◌, subst, arith}
 use Rattle.std.proofs.lemmas.Bool.{and_from, or_from, not_from_true, eq-eqb, ne_eqb, lt-ltb, le-ltb, lt-leb}
 use Rattle.std.proofs.lemmas.List.{map_push, append-nil}
-use Rattle.certificate.specs.Certificates.{Certificate, row_count, row, size, load, offered, Stands}
+use Rattle.certificate.specs.Certificates.{Certificate, row_count, row, size, offered, Stands}
 use Rattle.certificate.specs.Lawful.{Lawful}
 use Rattle.certificate.specs.Rules.{whole, judge_all, next_after}
 use Rattle.positions.specs.Positions.{empty_loads, empty_counts, offer}
@@ -20,7 +20,7 @@ use Rattle.game.specs.declared.matches.Next.{Next}
 use Rattle.game.specs.Loads.{row_is}
 use Rattle.game.specs.Turns.{Match, as_ready, as_waiting, as_ended, number_of, Offers}
 use Rattle.game.specs.Settling.{still_offers, settling, Settled, Settles, next_row, leads, ready_at}
-use Rattle.game.specs.Law.{Call, gave, put, shown, Run, opened, offer as offers, settle, refuse, ask, look}
+use Rattle.game.specs.Law.{Call, gave, put, Run, opened, offer as offers, settle, refuse, ask, look}
 use Rattle.game.specs.Law.{items, placed_items, accepted, carried, ToldRight, IsOver, IsEscape, Reaches, KeptAfter, Keeps, reached}
 use Rattle.game.proofs.RowLoads.{row_is_reached, sum_light}
 use Rattle.game.proofs.Progress.{Playing, State, Carrying, admitted_size, led_number, settled_state, settled_loads}

@@ -1,12 +1,10 @@
 -- What a certificate file means, byte by byte.
-use Rattle.std.proofs.Common.{◌≡◌, ℕ, suc, ◌+◌, ◌-◌, ◌*◌, ◌<◌, ◌≤◌, List, [], ◌++◌, map, length, get_or, take, drop, sym, refl, ap, ◌∙◌, subst, zero-add, arith, length-drop, length-take, take-add}
-use Rattle.std.specs.List.{range_with_len}
+use Rattle.std.proofs.Common.{◌≡◌, ℕ, ◌+◌, ◌-◌, ◌<◌, ◌≤◌, List, [], ◌++◌, length, get_or, take, drop, sym, ap, ◌∙◌, subst, zero-add, arith, length-drop, take-add}
 use Rattle.std.proofs.lemmas.List.{length-take-le, get_or-take, get_or-drop, get_or_past, drop-drop}
 use Rattle.std.proofs.lemmas.List.FromFn.{length-map-range_with_len, get_or-map-range_with_len}
-use Rattle.certificate.specs.Certificates.{Certificate, Row, no_row, class_count, row_count, row, size, load, count, offered, packed, position}
+use Rattle.certificate.specs.Certificates.{Row, no_row, class_count, row_count, row, size, load, count, offered, packed, position}
 use Rattle.layout.specs.declared.header.Header.{Header}
 use Rattle.layout.specs.Layout.{byte, header_of, header_length, position_length, position_start, answer_start, packed_start, body_length, part, packed_of, row_of, certificate_of}
-use Rattle.layout.proofs.Offsets.{position_within, answer_within, packed_within}
 
 -- a part that lies within the file is whole
 pub part_length : (a n : ℕ) (file : List ℕ) → a + n ≤ length file → length (part a n file) ≡ n

@@ -1,7 +1,7 @@
 -- Each part of each row lies within a file of the length that its header says.
 use Rattle.std.proofs.Common.{ℕ, suc, ◌+◌, ◌*◌, ◌<◌, ◌≤◌, subst, mul-le-mul_right, suc-mul, arith}
 use Rattle.layout.specs.declared.header.Header.{Header}
-use Rattle.layout.specs.Layout.{header_length, position_length, answer_length, position_start, answers_start, answer_start, packed_start, body_length}
+use Rattle.layout.specs.Layout.{header_length, position_length, answer_length, position_start, answer_start, packed_start, body_length}
 
 -- the i-th of n parts of width w ends within them all
 pub part_within : (i n w : ℕ) → i < n → i * w + w ≤ n * w

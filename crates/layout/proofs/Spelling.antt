@@ -1,7 +1,7 @@
 -- Positions that have no bytes.
-use Rattle.std.proofs.Common.{◌≡◌, ℕ, ◌+◌, ◌<◌, ◌≤◌, ◌⊎◌, List, ◌++◌, length, get_or, sym, subst, inl, inr, arith}
+use Rattle.std.proofs.Common.{◌≡◌, ℕ, ◌+◌, ◌<◌, List, ◌++◌, length, sym, subst, inl, inr, arith}
 use Rattle.std.proofs.lemmas.List.{length-append, get_or_append_left, get_or-append-add}
-use Rattle.layout.specs.Keys.{AboveByte, NoRoom, Unspelled}
+use Rattle.layout.specs.Keys.{NoRoom, Unspelled}
 
 -- the first part has no bytes
 pub unspelled_left : (xs ys : List ℕ) → NoRoom 0 xs → Unspelled (xs ++ ys)

@@ -1,5 +1,5 @@
 -- A sheet whose programme does not name the book is the same with every book.
-use Rattle.std.proofs.Common.{◌≡◌, ℕ, zero, suc, ◌+◌, ◌<◌, ◌≤◌, Bool, true, false, cond, List, [], ◌++◌, is_some, is_ok, Some, None, Ok, Err, Option, Result, sym, refl, ap, ◌∙◌, subst, arith}
+use Rattle.std.proofs.Common.{◌≡◌, ℕ, zero, suc, ◌+◌, ◌<◌, ◌≤◌, false, cond, List, [], ◌++◌, is_some, is_ok, Some, None, Ok, Err, Option, Result, refl, arith}
 use Rattle.certificate.specs.declared.fault.Fault.{Fault}
 use Rattle.certificate.specs.Certificates.{Certificate}
 use Rattle.certificate.specs.Rules.{first, judged}
@@ -8,7 +8,7 @@ use Rattle.plan.specs.declared.verdict.Verdict.{Verdict}
 use Rattle.programme.specs.declared.Entrant.{Entrant}
 use Rattle.programme.specs.declared.Entrant.TheVariants.{BestFit, Threshold, Book}
 use Rattle.programme.specs.Programmes.{match_count, entrant_of, programme_rule, is_book, book_at, names_book}
-use Rattle.match_sheet.specs.Sheet.{match_entered, match_result, lines_or_refusal, match_text, matches_from, programme_text, sheet_after}
+use Rattle.match_sheet.specs.Sheet.{match_entered, lines_or_refusal, matches_from, programme_text, sheet_after}
 use Rattle.lines.specs.Lines.{accepted_line, match_line}
 
 -- an entrant that is not the book does not ask for it

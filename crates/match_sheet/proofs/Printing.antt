@@ -1,5 +1,5 @@
 -- The text of a sheet's matches, as it grows by one match after another.
-use Rattle.std.proofs.Common.{◌≡◌, ℕ, suc, ◌+◌, ◌-◌, ◌<◌, Bool, true, false, cond, List, [], ◌++◌, is_ok, sym, refl, ap, ◌∙◌, append_assoc, append-nil, arith}
+use Rattle.std.proofs.Common.{◌≡◌, ℕ, suc, ◌+◌, ◌-◌, ◌<◌, true, false, cond, List, [], ◌++◌, is_ok, sym, ap, ◌∙◌, append_assoc, append-nil, arith}
 use Rattle.certificate.specs.Certificates.{Certificate}
 use Rattle.match_sheet.specs.Sheet.{match_result, match_text, matches_from}
 

@@ -1,5 +1,5 @@
 -- The printed sheet, as a function of the bytes of a certificate, a programme and a book.
-use Rattle.std.specs.Prelude.{◌≡◌, ℕ, zero, suc, ◌+◌, ◌*◌, cond, List, [], ◌++◌, length, take, replicate, is_ok, Ok, Err, Result}
+use Rattle.std.specs.Prelude.{ℕ, zero, suc, ◌+◌, ◌*◌, cond, List, [], ◌++◌, take, replicate, is_ok, Ok, Err, Result}
 use Rattle.certificate.specs.declared.fault.Fault.{Fault}
 use Rattle.certificate.specs.Certificates.{Certificate}
 use Rattle.certificate.specs.Lawful.{most_bins, most_capacity}

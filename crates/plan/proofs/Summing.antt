@@ -1,5 +1,5 @@
 -- A loop that adds up the numbers f 0, f 1 and so on, none above a limit.
-use Rattle.std.proofs.Common.{◌≡◌, ℕ, suc, ◌+◌, ◌*◌, ◌<◌, ◌≤◌, sym, ap, ◌∙◌, subst, suc-mul, mul-le-mul, add-one, arith}
+use Rattle.std.proofs.Common.{◌≡◌, ℕ, ◌+◌, ◌*◌, ◌<◌, ◌≤◌, sym, ap, ◌∙◌, subst, suc-mul, mul-le-mul, add-one, arith}
 use Rattle.certificate.specs.Certificates.{total}
 
 -- one more

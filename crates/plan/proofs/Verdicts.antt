@@ -1,5 +1,5 @@
 -- What an answer of the check says: acceptance is a winning plan and forces the bound, and a refusal is the least fault.
-use Rattle.std.proofs.Common.{◌≡◌, ℕ, true, false, is_ok, Ok, Err, Decides, Result, sym, refl, ap, ◌∙◌, subst}
+use Rattle.std.proofs.Common.{◌≡◌, true, is_ok, Ok, Err, Decides, Result, sym, refl, ap, ◌∙◌, subst}
 use Rattle.std.proofs.lemmas.Bool.{false≢true}
 use Rattle.certificate.specs.declared.fault.Fault.{Fault}
 use Rattle.certificate.specs.Rules.{judge_all, next_after}

@@ -1,5 +1,5 @@
 -- The check: rules 21 to 26 in their order, and the verdict.
-use Rattle.std.specs.Prelude.{ℕ, ◌+◌, ◌-◌, ◌*◌, ◌/◌, Bool, false, cond, not, ◌&&◌, List, [], ◌∷◌, is_some, Ok, Result, ◌==◌, nat_lt}
+use Rattle.std.specs.Prelude.{ℕ, ◌+◌, ◌-◌, ◌*◌, ◌/◌, Bool, cond, not, ◌&&◌, List, [], ◌∷◌, is_some, Ok, Result, ◌==◌, nat_lt}
 use Rattle.certificate.specs.declared.fault.Fault.{Fault}
 use Rattle.certificate.specs.Rules.{Rule, whole, judge_all, next_after}
 use Rattle.certificate.specs.Certificates.{Certificate, class_count, row_count, row, size, load, count, offered, packed, find_row, total}

@@ -1,21 +1,21 @@
 -- What a turn does, and what turns by a choice come to.
-use Rattle.std.proofs.Common.{◌≡◌, ℕ, zero, suc, ◌+◌, ◌*◌, ◌/◌, ◌<◌, ◌≤◌, Bool, true, false, ◌||◌, eqb, ltb, leb, List, [], ◌∷◌, length, get_or, set, IfOk, Ok, Err, sum, Result, sym, refl, ap, ◌∙◌, subst, add-one, arith, length-set}
+use Rattle.std.proofs.Common.{◌≡◌, ℕ, zero, suc, ◌+◌, ◌*◌, ◌/◌, ◌<◌, ◌≤◌, Bool, true, false, ◌||◌, eqb, ltb, leb, List, [], ◌∷◌, length, get_or, IfOk, Ok, Err, sum, Result, sym, ap, ◌∙◌, subst, arith, length-set}
 use Rattle.std.proofs.lemmas.Bool.{eqb-true, leb-false}
 use Rattle.certificate.specs.declared.fault.Fault.{Fault}
 use Rattle.certificate.specs.Certificates.{Certificate}
 use Rattle.certificate.specs.Rules.{judge_all}
 use Rattle.certificate.proofs.Judged.{hold_from_judge_all}
 use Rattle.certificate.proofs.Rules.{next_after_ok, passed, whole_passed}
-use Rattle.players.specs.Placing.{most_total, most_size, size_rule, total_rule, declined, raised, by_choice}
+use Rattle.players.specs.Placing.{most_total, most_size, size_rule, total_rule, declined, by_choice}
 use Rattle.players.proofs.Declining.{admitted}
 use Rattle.players.proofs.Raising.{sum_raised}
 use Rattle.game.specs.declared.matches.Ready.{Ready}
 use Rattle.game.specs.declared.matches.Ended.{Ended}
 use Rattle.game.specs.declared.matches.Next.{Next}
 use Rattle.game.specs.declared.matches.Next.TheVariants.{GoesOn, Ends}
-use Rattle.game.specs.Turns.{number_of, waits, offered_by, spent}
+use Rattle.game.specs.Turns.{number_of, waits}
 use Rattle.game.specs.Law.{reached}
-use Rattle.game.specs.Settling.{settling, settling_rules, next_row, leads, entered, Settled}
+use Rattle.game.specs.Settling.{settling, settling_rules, next_row}
 use Rattle.game.proofs.Progress.{led_number}
 use Rattle.play.specs.Playing.{Turn, Turns, stops, ends, goes, Played, followed, turned, turns_by, most_turns, PlaysFrom, played_from}
 

@@ -1,5 +1,5 @@
 -- On an accepted table the turns of a match end it as over, within the bound.
-use Rattle.std.proofs.Common.{◌≡◌, ℕ, ◌+◌, ◌*◌, ◌<◌, ◌≤◌, Bool, true, List, ◌∷◌, length, get_or, is_ok, IfOk, Ok, Err, sum, Result, unwrap_or, sym, refl, ap, ◌∙◌, subst, ⊎_elim, eq-or-lt_of_le, arith, MatchResult}
+use Rattle.std.proofs.Common.{◌≡◌, ℕ, ◌*◌, ◌<◌, ◌≤◌, Bool, true, List, ◌∷◌, length, is_ok, IfOk, Ok, Err, sum, Result, unwrap_or, sym, refl, ◌∙◌, subst, ⊎_elim, eq-or-lt_of_le, arith, MatchResult}
 use Rattle.std.proofs.lemmas.Bool.{false≢true}
 use Rattle.certificate.specs.declared.fault.Fault.{Fault}
 use Rattle.certificate.specs.Certificates.{Certificate}
@@ -15,7 +15,7 @@ use Rattle.game.specs.declared.matches.Next.TheVariants.{GoesOn, Ends}
 use Rattle.game.specs.Turns.{as_ready, as_waiting, as_ended, waits, offered_by, spent}
 use Rattle.game.specs.Settling.{ready_at}
 use Rattle.game.specs.Opening.{opened, start_row}
-use Rattle.game.specs.Law.{Call, gave, Run, offer, settle, accepted, KeptAfter, Keeps, Law, IsOver}
+use Rattle.game.specs.Law.{Call, gave, Run, offer, settle, accepted, KeptAfter, Keeps, IsOver}
 use Rattle.game.proofs.Starting.{law_from_opened, opened_from_accepted}
 use Rattle.play.specs.Playing.{Turns, stops, ends, goes, PlaysFrom, Plays, Computed, Wins, WinsFrom}
 use Rattle.play.proofs.Turning.{turn_length, plays_computed, plays_room}

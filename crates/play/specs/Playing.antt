@@ -6,11 +6,9 @@ use Rattle.certificate.specs.Certificates.{Certificate}
 use Rattle.positions.specs.Positions.{empty_loads}
 use Rattle.plan.specs.Plan.{verdict, bound}
 use Rattle.players.specs.Placing.{most_total, raised, by_choice}
-use Rattle.game.specs.declared.matches.Outcome.{Outcome}
 use Rattle.game.specs.declared.matches.Outcome.TheVariants.{Over}
 use Rattle.game.specs.declared.matches.Ready.{Ready}
 use Rattle.game.specs.declared.matches.Ended.{Ended}
-use Rattle.game.specs.declared.matches.Item.{Item}
 use Rattle.game.specs.declared.matches.Next.{Next}
 use Rattle.game.specs.declared.matches.Next.TheVariants.{GoesOn, Ends}
 use Rattle.game.specs.Turns.{waits, offered_by, spent}

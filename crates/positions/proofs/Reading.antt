@@ -1,7 +1,7 @@
 -- Reading a row number by number, from a store's answers.
-use Rattle.std.proofs.Common.{◌≡◌, ℕ, ◌+◌, ◌<◌, ◌≤◌, Bool, true, false, ◌&&◌, ltb, ◌⊎◌, List, [], ◌∷◌, ◌++◌, length, get_or, take, set, Some, None, Option, unwrap_or, sym, refl, ap, ◌∙◌, subst, inl, inr, arith}
-use Rattle.std.proofs.lemmas.Bool.{ltb-true, ltb-false, lt-ltb, and_parts, and_from, and_cases, cases_lt, cases_Bool, both_ways}
-use Rattle.std.proofs.lemmas.List.{get_or_past, take_more, take_all, get_or-take}
+use Rattle.std.proofs.Common.{◌≡◌, ℕ, ◌+◌, ◌<◌, ◌≤◌, Bool, true, false, ◌&&◌, ltb, ◌⊎◌, List, [], ◌∷◌, ◌++◌, length, get_or, take, Some, None, unwrap_or, sym, refl, ap, ◌∙◌, subst, inl, inr, arith}
+use Rattle.std.proofs.lemmas.Bool.{ltb-true, ltb-false, lt-ltb, and_parts, and_from, and_cases, cases_lt, both_ways}
+use Rattle.std.proofs.lemmas.List.{get_or_past, take_more, take_all}
 use Rattle.certificate.specs.Certificates.{Certificate, Row, no_row, given, class_count, row_count, row, size, load, count, offered, packed, size_at, load_at, count_at, offered_at, packed_at}
 use Rattle.certificate.specs.Lawful.{Lawful}
 

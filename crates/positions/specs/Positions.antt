@@ -1,6 +1,6 @@
 -- The empty position, and the position that follows when the offered item is placed.
 use Rattle.std.specs.Prelude.{ℕ, zero, suc, ◌+◌, ◌<◌, ◌≤◌, cond, List, [], ◌∷◌, length, replicate, nat_lt, slice_index, slice_set}
-use Rattle.certificate.specs.Certificates.{Certificate, class_count, row, size, offered}
+use Rattle.certificate.specs.Certificates.{Certificate, class_count, size, offered}
 
 -- all loads and counts are 0
 abbrev pub empty_loads : Certificate → List ℕ

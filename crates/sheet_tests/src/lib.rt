@@ -4,9 +4,9 @@
 #[cfg(test)]
 mod tests {
     use cases::two_bins::{FOUR_ROWS, TWO_BINS};
-    use programme::{Entrant, Programme};
     use match_sheet::judgement::judge_file;
     use match_sheet::text::sheet_of;
+    use programme::{Entrant, Programme};
     use std::alloc::{AllocError, Global};
     use std::test::Fail;
 

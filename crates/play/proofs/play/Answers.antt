@@ -1,8 +1,7 @@
-use Rattle.std.proofs.Common.{◌≡◌, Ok, Err, Result, sym, refl, ◌∙◌, subst}
+use Rattle.std.proofs.Common.{◌≡◌, Err, Result, sym, refl, ◌∙◌, subst}
 use Rattle.std.proofs.lemmas.Result.{err_from_is_err_and}
 use Rattle.certificate.specs.declared.fault.Fault.{Fault}
 use Rattle.game.specs.declared.matches.Ready.{Ready}
-use Rattle.game.specs.Opening.{opened}
 use Rattle.play.specs.Playing.{Plays, PlaysFrom}
 use Rattle.play.proofs.Victories.{plays_says}
 use Rattle.play.proofs.play.Goals as goal

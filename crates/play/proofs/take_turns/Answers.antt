@@ -1,9 +1,8 @@
-use Rattle.std.proofs.Common.{◌≡◌, ℕ, List, Ok, Err, Result, sym, refl, ◌∙◌, subst, arith}
+use Rattle.std.proofs.Common.{Ok, Err, Result, sym, refl, ◌∙◌, subst, arith}
 use Rattle.std.proofs.lemmas.Result.{err_from_is_err_and}
 use Rattle.certificate.specs.declared.fault.Fault.{Fault}
 use Rattle.game.specs.declared.matches.Ready.{Ready}
 use Rattle.game.specs.declared.matches.Next.TheVariants.{GoesOn}
-use Rattle.game.specs.Opening.{opened}
 use Rattle.play.specs.Playing.{stops, ends, goes, Plays, PlaysFrom}
 use Rattle.play.proofs.Turning.{turn_at, turn_raises}
 use Rattle.play.proofs.Victories.{plays_says}

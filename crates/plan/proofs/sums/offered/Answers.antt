@@ -1,4 +1,4 @@
-use Rattle.std.proofs.Common.{unwrap_or, ap, ◌∙◌, arith}
+use Rattle.std.proofs.Common.{unwrap_or, ap, ◌∙◌}
 use Rattle.positions.proofs.Reading.{offered_read}
 use Rattle.plan.proofs.sums.offered.Goals as goal
 

@@ -1,4 +1,4 @@
-use Rattle.std.proofs.Common.{◌<◌, sym, subst, arith, length-take}
+use Rattle.std.proofs.Common.{arith, length-take}
 use Rattle.std.proofs.lemmas.List.{get_or-take}
 use Rattle.positions.proofs.Inserting.{one_more_at}
 use Rattle.positions.proofs.Numbers.count_one.Goals as goal

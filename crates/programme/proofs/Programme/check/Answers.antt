@@ -1,4 +1,4 @@
-use Rattle.std.proofs.Common.{◌≡◌, [], ◌∷◌, vec_items, Result, sym, refl, ◌∙◌, subst}
+use Rattle.std.proofs.Common.{[], ◌∷◌, vec_items, Result, sym, refl, ◌∙◌, subst}
 use Rattle.certificate.specs.declared.fault.Fault.{Fault}
 use Rattle.certificate.specs.Least.{Judges}
 use Rattle.certificate.proofs.Least.{judges}

@@ -1,4 +1,4 @@
-use Rattle.std.proofs.Common.{◌+◌, ◌*◌, ap, arith}
+use Rattle.std.proofs.Common.{◌*◌, ap, arith}
 use Rattle.layout.proofs.Offsets.{answer_within}
 use Rattle.files.proofs.row_file.RowFile.answer_start.Goals as goal
 

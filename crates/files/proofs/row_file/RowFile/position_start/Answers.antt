@@ -1,4 +1,4 @@
-use Rattle.std.proofs.Common.{◌+◌, ◌*◌, ap, arith}
+use Rattle.std.proofs.Common.{◌*◌, ap, arith}
 use Rattle.layout.proofs.Offsets.{position_within}
 use Rattle.files.proofs.row_file.RowFile.position_start.Goals as goal
 

@@ -1,5 +1,5 @@
 use Rattle.std.proofs.Common.{◌≡◌, length, take, None, sym, ◌∙◌}
-use Rattle.certificate.specs.Certificates.{class_count, find_row}
+use Rattle.certificate.specs.Certificates.{class_count}
 use Rattle.certificate.proofs.Finding.{found_says}
 use Rattle.flat.specs.Tables.{table_meant}
 use Rattle.flat.specs.TablesLemmas.{table_lawful}

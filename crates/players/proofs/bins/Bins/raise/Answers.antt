@@ -1,4 +1,4 @@
-use Rattle.std.proofs.Common.{◌<◌, arith, rules}
+use Rattle.std.proofs.Common.{◌<◌, arith}
 use Rattle.players.proofs.Declining.{slot_room, raised_light}
 use Rattle.players.proofs.Raising.{raised_slot, raised_slots}
 use Rattle.players.proofs.bins.Bins.raise.Goals as goal

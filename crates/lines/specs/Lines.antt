@@ -16,7 +16,7 @@ pair_line word a b = word ++ (decimal a ++ (32 ∷ (decimal b ++ (10 ∷ []))))
 
 -- "accepted", the number of rows and the bound
 abbrev pub accepted_line : Verdict → List ℕ
-accepted_line v = pair_line (codes "accepted ") v.rows v.bound
+accepted_line v = codes "accepted " ++ (decimal v.rows ++ (32 ∷ (decimal v.bound ++ (10 ∷ []))))
 
 -- "refused", the number and both places
 abbrev pub refused_line : Fault → List ℕ

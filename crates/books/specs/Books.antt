@@ -1,12 +1,12 @@
 -- A book: m, the number of its rows, the situation of each row and the bin that each row advises, as bytes.
-use Rattle.std.specs.Prelude.{◌≡◌, ℕ, ◌+◌, ◌-◌, ◌*◌, ◌<◌, ◌≤◌, Bool, cond, not, ◌&&◌, ◌⊎◌, List, [], ◌∷◌, ◌++◌, length, take, drop, replicate, Ok, Err, Option, Result, ◌==◌, nat_le, nat_lt, slice_index}
+use Rattle.std.specs.Prelude.{◌≡◌, ℕ, ◌+◌, ◌*◌, ◌<◌, ◌≤◌, Bool, cond, not, ◌⊎◌, List, [], ◌∷◌, ◌++◌, length, take, drop, replicate, Ok, Err, Option, Result, ◌==◌, nat_le, nat_lt, slice_index}
 use Rattle.std.specs.Option.{option_map}
 use Rattle.certificate.specs.declared.fault.Fault.{Fault}
 use Rattle.certificate.specs.Lawful.{most_count, most_rows}
 use Rattle.certificate.specs.Rules.{Rule, whole, judged, judge_all, next_after}
-use Rattle.search.specs.Ascending.{precedes, row_with}
+use Rattle.search.specs.Ascending.{order_rule as keys_rule, row_with}
 use Rattle.players.specs.Placing.{bins_rule}
-use Rattle.players.specs.Choosing.{or_least_full}
+use Rattle.players.specs.Choosing.{least_full, preferring}
 use Rattle.players.specs.Fitting.{LeastFull}
 
 -- ---- the layout
@@ -49,13 +49,9 @@ header_rule book = whole 17 (nat_lt (length book) header_bytes)
 abbrev pub length_rule : List ℕ → Rule
 length_rule book = whole 17 (not (length book == book_bytes book))
 
--- whether the situation of row i is not above the one before
-abbrev pub out_of_order : List ℕ → ℕ → ℕ → Bool
-out_of_order book i _ = nat_lt 0 i && not (precedes (situation_of book (i - 1)) (situation_of book i))
-
 -- 18: a situation is not above the one before (row)
 abbrev pub order_rule : List ℕ → Rule
-order_rule book = record { number = 18; rows = book_rows book; places = 1; broken = out_of_order book }
+order_rule book = keys_rule 18 (situation_of book) (book_rows book)
 
 -- whether the bin that row i advises is m or more
 abbrev pub bin_unknown : List ℕ → ℕ → ℕ → Bool
@@ -107,7 +103,7 @@ advice_of book loads size = option_map (advised_by book) (row_for book loads siz
 
 -- the book's bin: the one that it advises, else the least full bin
 abbrev pub book_choice : List ℕ → List ℕ → ℕ → ℕ
-book_choice book loads size = or_least_full (advice_of book loads size) loads
+book_choice book = preferring (advice_of book)
 
 -- row i has these loads and this size
 abbrev pub Applies : List ℕ → List ℕ → ℕ → ℕ → Type 0
@@ -118,3 +114,8 @@ abbrev pub ByBook : List ℕ → List ℕ → ℕ → ℕ → Type 0
 ByBook book loads size b =
     ((i : ℕ) × Applies book loads size i × (b ≡ advised_by book i))
     ⊎ (((i : ℕ) → Applies book loads size i → ⊥) × LeastFull loads b)
+
+-- what is true of the book's bin: it is that of the row, and the least full one where a load is above every byte
+pub record FitsBook (book loads : List ℕ) (size b : ℕ) : Type 0 where
+  pub by_book : ByBook book loads size b
+  pub wide : (k : ℕ) → most_count < slice_index loads k → b ≡ least_full loads

@@ -1,25 +1,18 @@
 // The bytes of a book: its header, the situation of each row, and the bin that each row advises.
-ghost use Rattle.std.specs.Prelude.{◌≡◌, ℕ, ◌+◌, ◌<◌, ◌≤◌, length, take, drop, vec_len, slice_index};
+ghost use Rattle.std.specs.Prelude.{◌≡◌, ℕ, ◌+◌, ◌<◌, ◌≤◌, length, take, drop, slice_index};
 ghost use Rattle.certificate.specs.Lawful.{most_bins, most_count, most_rows};
 ghost use Rattle.certificate.specs.Rules.{judge_all};
-ghost use Rattle.books.specs.Books.{book_bins, book_rows, book_bytes, situation_of, advised_by, order_rule, advice_rule, row_rules, Headed};
+ghost use Rattle.books.specs.Books.{book_bins, book_rows, book_bytes, situation_of, advised_by, advice_rule, row_rules, Headed};
 ghost use Rattle.players.specs.Held.{held};
 
 use certificate::fault::Fault;
+use certificate::reason::Reason;
 use certificate::rule::{RuleOf, Scope, judge};
 use players::bins::Bins;
-use search::standing_of;
-use std::cmp::Ordering;
+use search::{KeyedRows, KeysAscend};
 
 // m and the two bytes of N.
 pub const HEADER_BYTES: usize = 3;
-
-// A wrong length, a situation out of order, and an unknown bin.
-const LENGTH: u8 = 17;
-
-const ORDER: u8 = 18;
-
-const BIN: u8 = 19;
 
 // A book of the right length, whose rows need not be in order yet.
 #[derive(Drop)]
@@ -30,7 +23,7 @@ pub struct Pages {
     ghost small: { (bins ≤ most_bins) × (rows ≤ most_rows) },
     ghost octets: { (i : ℕ) → slice_index bytes.items i ≤ most_count },
     ghost headed: { (bins ≡ book_bins bytes.items) × (rows ≡ book_rows bytes.items) },
-    ghost whole: { vec_len bytes ≡ book_bytes bytes.items },
+    ghost whole: { length bytes.items ≡ book_bytes bytes.items },
 }
 
 // The empty bins that a book is for, and its number of rows; refused for a book of another length.
@@ -38,12 +31,12 @@ pub fn header(book: &[u8]) -> Result<(Bins, usize), Fault>
     ensures { Headed held book.now result }
 {
     let [bins, high, low, ..] = book else {
-        return Err(Fault::of(LENGTH));
+        return Err(Reason::BookLength.into());
     };
     let empty = Bins::new(usize::from(*bins))?;
-    let rows = 256 * usize::from(*high) + usize::from(*low);
+    let rows = usize::from(u16::from_be_bytes([*high, *low]));
     if book.len() != HEADER_BYTES + rows * (usize::from(*bins) + 1) + rows {
-        return Err(Fault::of(LENGTH));
+        return Err(Reason::BookLength.into());
     }
     Ok((empty, rows))
 }
@@ -81,23 +74,22 @@ impl Pages {
     pub fn check(&self) -> Result<(), Fault>
         ensures { result ≡ judge_all (row_rules self.now.bytes.items) }
     {
-        judge(&InOrder, self)?;
+        judge(&KeysAscend(Reason::SituationOrder), self)?;
         judge(&KnownBins, self)
     }
 }
 
-// 18: a situation is not above the one before (row)
-struct InOrder;
+impl KeyedRows for Pages {
+    ghost rows = { λ p. book_rows p.bytes.items };
 
-impl RuleOf<Pages> for InOrder {
-    ghost rule = { λ p. order_rule p.bytes.items };
+    ghost key = { λ p. situation_of p.bytes.items };
 
-    fn scope(&self, pages: &Pages) -> Scope {
-        Scope::new(ORDER, pages.rows, 1)
+    fn len(&self) -> usize {
+        self.rows
     }
 
-    fn is_broken(&self, pages: &Pages, row: usize, _place: usize) -> bool {
-        row > 0 && standing_of(pages.situation(row - 1), pages.situation(row)) != Ordering::Less
+    fn key(&self, row: usize) -> &[u8] {
+        self.situation(row)
     }
 }
 
@@ -105,10 +97,10 @@ impl RuleOf<Pages> for InOrder {
 struct KnownBins;
 
 impl RuleOf<Pages> for KnownBins {
-    ghost rule = { λ p. advice_rule p.bytes.items };
+    ghost rule = { λ _ p. advice_rule p.bytes.items };
 
     fn scope(&self, pages: &Pages) -> Scope {
-        Scope::new(BIN, pages.rows, 1)
+        Scope::of(Reason::AdvisedBin, pages.rows, 1)
     }
 
     fn is_broken(&self, pages: &Pages, row: usize, _place: usize) -> bool {

@@ -1,79 +1,86 @@
 use crate::two_bins::{FOUR_ROWS, TWO_BINS};
+use certificate::fault::Fault;
 use certificate::store::Store;
 use flat::FlatTable;
+use plan::verdict::Verdict;
 use sheet::judgement::judge_file;
 use sheet::text::sheet_of;
 use std::alloc::{AllocError, Global};
 use std::test::Fail;
 
-// What is said of a file: number 0 with the rows and the bound where it is accepted, else the fault.
-type Said = (u8, usize, usize);
-
-fn said(file: Vec<u8>) -> Said {
-    match judge_file(file) {
-        Ok(verdict) => (0, verdict.rows, verdict.bound),
-        Err(fault) => (fault.number, fault.first, fault.second),
-    }
+// The refusal with this number and these places.
+fn refused(number: u8, first: usize, second: usize) -> Result<Verdict, Fault> {
+    Err(Fault {
+        number,
+        first,
+        second,
+    })
 }
 
-// What is said of the two-bin table with some bytes changed.
-fn said_with(heap: Global, changes: &[(usize, u8)]) -> Result<Said, AllocError> {
+// The two-bin table with some bytes changed.
+fn changed(heap: Global, changes: &[(usize, u8)]) -> Result<Vec<u8>, AllocError> {
     let mut bytes = TWO_BINS.to_vec(heap)?;
-    for change in changes {
-        if let Some(byte) = bytes.get_mut(change.0) {
-            *byte = change.1;
+    for (place, new) in changes {
+        if let Some(byte) = bytes.get_mut(*place) {
+            *byte = *new;
         }
     }
-    Ok(said(bytes))
+    Ok(bytes)
 }
+
+// Changes of the two-bin table, and the fault that each leads to.
+const FAULTS: [(&[(usize, u8)], (u8, usize, usize)); 39] = [
+    (&[(0, 1)], (2, 0, 0)),
+    (&[(0, 9)], (2, 0, 0)),
+    (&[(1, 0)], (3, 0, 0)),
+    (&[(1, 128)], (3, 0, 0)),
+    (&[(2, 3)], (4, 0, 0)),
+    (&[(2, 7)], (4, 0, 0)),
+    (&[(2, 6)], (26, 2, 0)),
+    (&[(1, 127), (2, 255)], (4, 0, 0)),
+    (&[(1, 127), (2, 254)], (26, 2, 0)),
+    (&[(3, 0)], (5, 0, 0)),
+    (&[(3, 33)], (5, 0, 0)),
+    (&[(5, 0)], (6, 0, 0)),
+    (&[(5, 4)], (7, 0, 0)),
+    (&[(4, 1)], (7, 0, 0)),
+    (&[(6, 0)], (8, 0, 0)),
+    (&[(7, 1)], (8, 1, 0)),
+    (&[(8, 2)], (8, 2, 0)),
+    (&[(8, 4)], (8, 2, 0)),
+    (&[(29, 4)], (9, 4, 0)),
+    (&[(30, 9)], (9, 4, 1)),
+    (&[(48, 3)], (10, 2, 0)),
+    (&[(62, 255)], (10, 4, 0)),
+    (&[(14, 0), (16, 0)], (11, 1, 0)),
+    (&[(13, 1)], (21, 0, 0)),
+    (&[(14, 0), (15, 1)], (22, 1, 1)),
+    (&[(26, 1)], (23, 3, 0)),
+    (&[(49, 0), (52, 2)], (24, 2, 1)),
+    (&[(63, 9)], (24, 4, 0)),
+    (&[(67, 0)], (25, 4, 1)),
+    (&[(62, 0)], (25, 4, 0)),
+    (&[(2, 5)], (26, 2, 0)),
+    // several faults at once: the least number, then row, then place
+    (&[(29, 4), (48, 3), (15, 2)], (9, 4, 0)),
+    (&[(25, 4), (29, 4)], (9, 3, 1)),
+    (&[(24, 4), (25, 4)], (9, 3, 0)),
+    (&[(15, 2), (30, 3)], (11, 2, 0)),
+    (&[(16, 2), (26, 1)], (23, 1, 0)),
+    (&[(41, 9), (48, 2), (67, 0)], (10, 1, 0)),
+    (&[(67, 0), (36, 3)], (24, 0, 0)),
+    (&[(6, 0), (62, 9), (0, 9)], (2, 0, 0)),
+];
 
 #[test]
 fn every_number(rt: HostRuntime) -> Result<(), Fail> {
-    let cases: [(&[(usize, u8)], Said); 40] = [
-        (&[], (0, 5, 6)),
-        (&[(0, 1)], (2, 0, 0)),
-        (&[(0, 9)], (2, 0, 0)),
-        (&[(1, 0)], (3, 0, 0)),
-        (&[(1, 128)], (3, 0, 0)),
-        (&[(2, 3)], (4, 0, 0)),
-        (&[(2, 7)], (4, 0, 0)),
-        (&[(2, 6)], (26, 2, 0)),
-        (&[(1, 127), (2, 255)], (4, 0, 0)),
-        (&[(1, 127), (2, 254)], (26, 2, 0)),
-        (&[(3, 0)], (5, 0, 0)),
-        (&[(3, 33)], (5, 0, 0)),
-        (&[(5, 0)], (6, 0, 0)),
-        (&[(5, 4)], (7, 0, 0)),
-        (&[(4, 1)], (7, 0, 0)),
-        (&[(6, 0)], (8, 0, 0)),
-        (&[(7, 1)], (8, 1, 0)),
-        (&[(8, 2)], (8, 2, 0)),
-        (&[(8, 4)], (8, 2, 0)),
-        (&[(29, 4)], (9, 4, 0)),
-        (&[(30, 9)], (9, 4, 1)),
-        (&[(48, 3)], (10, 2, 0)),
-        (&[(62, 255)], (10, 4, 0)),
-        (&[(14, 0), (16, 0)], (11, 1, 0)),
-        (&[(13, 1)], (21, 0, 0)),
-        (&[(14, 0), (15, 1)], (22, 1, 1)),
-        (&[(26, 1)], (23, 3, 0)),
-        (&[(49, 0), (52, 2)], (24, 2, 1)),
-        (&[(63, 9)], (24, 4, 0)),
-        (&[(67, 0)], (25, 4, 1)),
-        (&[(62, 0)], (25, 4, 0)),
-        (&[(2, 5)], (26, 2, 0)),
-        // several faults at once: the least number, then row, then place
-        (&[(29, 4), (48, 3), (15, 2)], (9, 4, 0)),
-        (&[(25, 4), (29, 4)], (9, 3, 1)),
-        (&[(24, 4), (25, 4)], (9, 3, 0)),
-        (&[(15, 2), (30, 3)], (11, 2, 0)),
-        (&[(16, 2), (26, 1)], (23, 1, 0)),
-        (&[(41, 9), (48, 2), (67, 0)], (10, 1, 0)),
-        (&[(67, 0), (36, 3)], (24, 0, 0)),
-        (&[(6, 0), (62, 9), (0, 9)], (2, 0, 0)),
-    ];
-    for case in &cases {
-        assert_eq!(rt; said_with(rt.alloc(), case.0)?, case.1);
+    let unchanged = judge_file(changed(rt.alloc(), &[])?);
+    assert_eq!(rt; unchanged, Ok(Verdict { rows: 5, bound: 6 }));
+    for (changes, (number, first, second)) in FAULTS {
+        assert_eq!(rt;
+            judge_file(changed(rt.alloc(), changes)?),
+            refused(number, first, second)
+        );
     }
     Ok(())
 }
@@ -81,22 +88,34 @@ fn every_number(rt: HostRuntime) -> Result<(), Fail> {
 #[test]
 fn other_lengths(rt: HostRuntime) -> Result<(), Fail> {
     let heap = rt.alloc();
-    assert_eq!(rt; said(Vec::new(heap)), (1, 0, 0), "an empty file");
-    assert_eq!(rt; said(TWO_BINS[0..5].to_vec(heap)?), (1, 0, 0), "five bytes");
     assert_eq!(rt;
-        said(TWO_BINS[0..6].to_vec(heap)?),
-        (7, 0, 0),
+        judge_file(Vec::new(heap)),
+        refused(1, 0, 0),
+        "an empty file"
+    );
+    assert_eq!(rt;
+        judge_file(TWO_BINS[..5].to_vec(heap)?),
+        refused(1, 0, 0),
+        "five bytes"
+    );
+    assert_eq!(rt;
+        judge_file(TWO_BINS[..6].to_vec(heap)?),
+        refused(7, 0, 0),
         "a header alone"
     );
     assert_eq!(rt;
-        said(TWO_BINS[0..68].to_vec(heap)?),
-        (7, 0, 0),
+        judge_file(TWO_BINS[..68].to_vec(heap)?),
+        refused(7, 0, 0),
         "a byte short"
     );
     let mut long = TWO_BINS.to_vec(heap)?;
     long.push(0)?;
-    assert_eq!(rt; said(long), (7, 0, 0), "a byte more");
-    assert_eq!(rt; said(FOUR_ROWS.to_vec(heap)?), (26, 3, 1), "without row 4");
+    assert_eq!(rt; judge_file(long), refused(7, 0, 0), "a byte more");
+    assert_eq!(rt;
+        judge_file(FOUR_ROWS.to_vec(heap)?),
+        refused(26, 3, 1),
+        "without row 4"
+    );
     Ok(())
 }
 
@@ -117,7 +136,10 @@ fn exchanged_rows(rt: HostRuntime) -> Result<(), Fail> {
         (52, 1),
         (54, 0),
     ];
-    assert_eq!(rt; said_with(rt.alloc(), &changes)?, (11, 2, 0));
+    assert_eq!(rt;
+        judge_file(changed(rt.alloc(), &changes)?),
+        refused(11, 2, 0)
+    );
     Ok(())
 }
 
@@ -127,14 +149,12 @@ fn file_comes_back(rt: HostRuntime) -> Result<(), Fail> {
     let mut bytes = TWO_BINS.to_vec(rt.alloc())?;
     bytes.push(7)?;
     let sent = bytes.clone()?;
-    match FlatTable::open(bytes) {
-        Ok(_) => Err(Fail::new("opened a file that is too long")),
-        Err(refused) => {
-            assert_eq!(rt; refused.fault.number, 7);
-            assert!(rt; refused.file == sent);
-            Ok(())
-        }
-    }
+    let Err(refused) = FlatTable::open(bytes) else {
+        return Err(Fail::new("opened a file that is too long"));
+    };
+    assert_eq!(rt; refused.fault.number, 7);
+    assert!(rt; refused.bytes == sent);
+    Ok(())
 }
 
 // Questions about what is there and what is not.
@@ -202,11 +222,12 @@ fn sheets(rt: HostRuntime) -> Result<(), Fail> {
 // A file of 65,535 rows with no loads, whose counts are the row's number in two bytes; `last` are those of the last row.
 fn many_rows(heap: Global, last: [u8; 2]) -> Result<Vec<u8>, AllocError> {
     let mut file = [2, 3, 4, 2, 255, 255, 1, 2].to_vec(heap)?;
-    for row in 0..65534u32 {
-        file.extend_from_slice(&[0, 0, (row / 256) as u8, (row % 256) as u8])?;
+    for row in 0..65534u16 {
+        let [high, low] = row.to_be_bytes();
+        file.extend_from_slice(&[0, 0, high, low])?;
     }
     file.extend_from_slice(&[0, 0, last[0], last[1]])?;
-    for _ in 0..65535u32 {
+    for _ in 0..65535u16 {
         file.extend_from_slice(&[0; 5])?;
     }
     Ok(file)
@@ -216,13 +237,13 @@ fn many_rows(heap: Global, last: [u8; 2]) -> Result<Vec<u8>, AllocError> {
 fn most_rows(rt: HostRuntime) -> Result<(), Fail> {
     let heap = rt.alloc();
     assert_eq!(rt;
-        said(many_rows(heap, [255, 254])?),
-        (23, 1, 0),
+        judge_file(many_rows(heap, [255, 254])?),
+        refused(23, 1, 0),
         "opens, and row 1 does not add up"
     );
     assert_eq!(rt;
-        said(many_rows(heap, [255, 253])?),
-        (11, 65534, 0),
+        judge_file(many_rows(heap, [255, 253])?),
+        refused(11, 65534, 0),
         "the last row equals the one before"
     );
     let Ok(table) = FlatTable::open(many_rows(heap, [255, 254])?) else {

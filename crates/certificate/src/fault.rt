@@ -1,5 +1,8 @@
-ghost use Rattle.std.specs.Prelude.{◌≡◌};
-ghost use Rattle.certificate.specs.Faults.{fault};
+ghost use Rattle.std.specs.Prelude.{◌≡◌, Some};
+ghost use Rattle.certificate.specs.Faults.{fault, fault_text};
+
+use std::error::Error;
+use std::fmt;
 
 // A refusal: its number and two places, each 0 where the number names none.
 #[derive(Clone, Copy, PartialEq, Eq, Debug)]
@@ -21,3 +24,19 @@ impl Fault {
         }
     }
 }
+
+// The number and both places, as the sheet prints them.
+impl fmt::Display for Fault {
+    ghost output = { λ f. Some (fault_text f) };
+
+    fn fmt<W: fmt::Write>(&self, f: &mut fmt::Formatter<W>) -> fmt::Result {
+        let Fault {
+            number,
+            first,
+            second,
+        } = *self;
+        write!(f, "{number} {first} {second}")
+    }
+}
+
+impl Error for Fault {}

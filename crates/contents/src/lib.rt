@@ -7,24 +7,19 @@ ghost use Rattle.certificate.specs.Contents.{sizes_rule, loads_rule, offers_rule
 ghost use Rattle.files.specs.RowFiles.{meant};
 
 use certificate::fault::Fault;
+use certificate::reason::Reason;
 use certificate::rule::{RuleOf, Scope, judge};
 use files::row_file::RowFile;
-
-const SIZE: u8 = 8;
-
-const LOAD: u8 = 9;
-
-const OFFER: u8 = 10;
 
 // Sizes ascend strictly within 1 to T.
 #[derive(Clone, Copy)]
 pub struct SizesAscend;
 
 impl RuleOf<RowFile> for SizesAscend {
-    ghost rule = { λ f. sizes_rule (meant f) };
+    ghost rule = { λ _ f. sizes_rule (meant f) };
 
     fn scope(&self, file: &RowFile) -> Scope {
-        Scope::new(SIZE, file.classes(), 1)
+        Scope::of(Reason::Size, file.classes(), 1)
     }
 
     fn is_broken(&self, file: &RowFile, class: usize, _place: usize) -> bool {
@@ -43,10 +38,10 @@ impl RuleOf<RowFile> for SizesAscend {
 pub struct LoadsBelowTarget;
 
 impl RuleOf<RowFile> for LoadsBelowTarget {
-    ghost rule = { λ f. loads_rule (meant f) };
+    ghost rule = { λ _ f. loads_rule (meant f) };
 
     fn scope(&self, file: &RowFile) -> Scope {
-        Scope::new(LOAD, file.rows(), file.bins())
+        Scope::of(Reason::Load, file.rows(), file.bins())
     }
 
     fn is_broken(&self, file: &RowFile, row: usize, bin: usize) -> bool {
@@ -59,10 +54,10 @@ impl RuleOf<RowFile> for LoadsBelowTarget {
 pub struct OffersKnown;
 
 impl RuleOf<RowFile> for OffersKnown {
-    ghost rule = { λ f. offers_rule (meant f) };
+    ghost rule = { λ _ f. offers_rule (meant f) };
 
     fn scope(&self, file: &RowFile) -> Scope {
-        Scope::new(OFFER, file.rows(), 1)
+        Scope::of(Reason::Offer, file.rows(), 1)
     }
 
     fn is_broken(&self, file: &RowFile, row: usize, _place: usize) -> bool {

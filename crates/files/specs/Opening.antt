@@ -3,7 +3,7 @@ use Rattle.std.specs.Prelude.{ℕ, List, Ok, Err, Result}
 use Rattle.certificate.specs.declared.fault.Fault.{Fault}
 use Rattle.certificate.specs.Rules.{Rule, judge_all, next_after}
 use Rattle.certificate.specs.Certificates.{Certificate}
-use Rattle.files.specs.declared.refused.Refused.{Refused}
+use Rattle.certificate.specs.declared.refused.Refused.{Refused}
 use Rattle.layout.specs.Layout.{certificate_of}
 
 -- an answer without the bytes that a refusal hands back

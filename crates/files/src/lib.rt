@@ -1,5 +1,4 @@
-// A certificate file whose header and length are right, and the refusal of any other.
+// A certificate file whose header and length are right.
 #![tactic(auto)]
 
-pub mod refused;
 pub mod row_file;

@@ -1,9 +1,9 @@
 -- A file that keeps rules 1 to 11 means a lawful certificate, with positions that ascend.
-use Rattle.std.specs.Prelude.{◌≡◌, ℕ, ◌+◌, ◌-◌, ◌<◌, ◌≤◌, true, cond, not, List, [], ◌++◌, length, drop, is_ok, Ok, Err, Result, ◌==◌, nat_le, nat_lt, slice_index, slice_index_or, refl}
+use Rattle.std.specs.Prelude.{◌≡◌, ℕ, ◌+◌, ◌-◌, ◌<◌, ◌≤◌, true, cond, List, [], ◌++◌, length, drop, is_ok, Ok, Err, Result, nat_le, nat_lt, slice_index, slice_index_or, refl}
 use Rattle.std.specs.declared.cmp.Ordering.TheVariants.{Less}
 use Rattle.std.proofs.Common.{arith, sym, ap, subst, ◌∙◌, inl, inr, length-take}
 use Rattle.std.specs.List.{AllByRecursion}
-use Rattle.std.proofs.lemmas.Bool.{ltb-false, leb-false, ne_eqb, not-false, and_cases, or_parts, cases_lt, cases_order, both_ways, false≢true}
+use Rattle.std.proofs.lemmas.Bool.{ltb-false, leb-false, ne_eqb, or_parts, cases_lt, cases_order, false≢true}
 use Rattle.std.proofs.lemmas.List.{get_or_past}
 use Rattle.std.proofs.lemmas.List.FromFn.{length-map-range_with_len}
 use Rattle.certificate.specs.declared.fault.Fault.{Fault}
@@ -12,9 +12,10 @@ use Rattle.certificate.specs.Certificates.{Certificate, Row, no_row, class_count
 use Rattle.certificate.specs.Lawful.{Lawful, most_count}
 use Rattle.certificate.specs.Contents.{size_before}
 use Rattle.certificate.proofs.Judged.{Holds, hold_from_judge_all}
-use Rattle.search.specs.Ascending.{standing, precedes, Ascending}
+use Rattle.search.specs.Ascending.{standing, Ascending}
 use Rattle.search.proofs.Orders.{not_before_itself}
 use Rattle.search.proofs.Halving.{earlier}
+use Rattle.search.proofs.Rising.{ascending_from_rule}
 use Rattle.layout.specs.declared.header.Header.{Header}
 use Rattle.layout.specs.Layout.{byte, header_of, position_start, packed_start, part, packed_of, row_of, certificate_of}
 use Rattle.layout.proofs.Frames.{Framed}
@@ -50,13 +51,7 @@ module _ (c : Certificate) (sound : is_ok (judge_all (table_rules c)) ≡ true) 
 
   -- each position comes before the next
   pub positions_ascend : Ascending (position c) (row_count c)
-  positions_ascend i l =
-      let first_of : (i + 1) - 1 ≡ i = omega arith in
-      let later : not (i + 1 == 0) ≡ true = ap not (ne_eqb (i + 1) 0 (λ e. omega arith)) in
-      elim (and_cases (not (i + 1 == 0)) (not (precedes (position c ((i + 1) - 1)) (position c (i + 1)))) (all_hold.1.1.1.0 (i + 1) 0 l (omega arith))) [
-        | inl p ↦ absurd (both_ways (not (i + 1 == 0)) p later)
-        | inr p ↦ subst (λ x. precedes (position c x) (position c (i + 1)) ≡ true) first_of (not-false (precedes (position c ((i + 1) - 1)) (position c (i + 1))) p)
-      ]
+  positions_ascend = ascending_from_rule 11 (position c) (row_count c) all_hold.1.1.1.0
 
   -- equal positions are those of one row
   positions_differ : (i j : ℕ) → i < row_count c → j < row_count c → position c i ≡ position c j → i ≡ j

@@ -7,7 +7,7 @@ ghost use Rattle.flat.specs.Tables.{table_meant};
 
 use crate::flat_table::FlatTable;
 use crate::order::rows_hold;
-use files::refused::Refused;
+use certificate::refused::Refused;
 use files::row_file::RowFile;
 
 impl FlatTable {
@@ -15,14 +15,14 @@ impl FlatTable {
     pub fn open(bytes: Vec<u8>) -> Result<FlatTable, Refused>
         ensures answer { told table_meant result ≡ opened (flat_rules bytes.items) bytes.items }
         ensures least { Judges (flat_rules bytes.items) (told table_meant result) }
-        ensures kept { IfErr result (λ e. e.file ≡ bytes) }
+        ensures kept { IfErr result (λ e. e.bytes ≡ bytes) }
     {
         let file = RowFile::open(bytes)?;
         match rows_hold(&file) {
             Ok(()) => Ok(FlatTable { file }),
             Err(fault) => Err(Refused {
                 fault,
-                file: file.into_bytes(),
+                bytes: file.into_bytes(),
             }),
         }
     }

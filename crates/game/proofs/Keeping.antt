@@ -1,13 +1,13 @@
 -- Every list of calls keeps the law.
-use Rattle.std.proofs.Common.{◌≡◌, ℕ, ◌+◌, ◌*◌, ◌/◌, ◌<◌, ◌≤◌, Bool, true, false, not, ◌||◌, eqb, ltb, leb, List, [], ◌∷◌, ◌++◌, map, length, get_or, is_ok, Ok, Err, sum, Result, sym, refl, ap, ◌∙◌, subst, arith}
-use Rattle.std.proofs.lemmas.Bool.{and_from, or_from, not_from_true, eq-eqb, ne_eqb, lt-ltb, le-ltb, lt-leb}
+use Rattle.std.proofs.Common.{◌≡◌, ℕ, ◌+◌, ◌*◌, ◌/◌, ◌<◌, ◌≤◌, Bool, true, false, not, ◌||◌, ltb, eqb, ltb, List, [], ◌∷◌, ◌++◌, map, length, get_or, is_ok, Ok, Err, sum, Result, sym, refl, ap, ◌∙◌, arith}
+use Rattle.std.proofs.lemmas.Bool.{not_from_true, le-ltb, lt-leb}
+use Rattle.std.proofs.lemmas.Bool.Decides.{nat_tests}
 use Rattle.std.proofs.lemmas.List.{map_push, append-nil}
-use Rattle.certificate.specs.Certificates.{Certificate, row_count, row, size, offered, Stands}
+use Rattle.certificate.specs.Certificates.{Certificate, row, size, offered, Stands}
 use Rattle.certificate.specs.Lawful.{Lawful}
 use Rattle.certificate.specs.Rules.{whole, judge_all, next_after}
 use Rattle.positions.specs.Positions.{empty_loads, empty_counts, offer}
 use Rattle.plan.specs.Winning.{Winning}
-use Rattle.plan.specs.Bound.{Fit}
 use Rattle.plan.proofs.Step.{reached_start, reached_like, placed_fit, offer_fits, offer_in_bound}
 use Rattle.players.specs.Placing.{most_size, most_total, raised}
 use Rattle.game.specs.declared.matches.Ready.{Ready}
@@ -19,11 +19,11 @@ use Rattle.game.specs.declared.matches.Item.{Item}
 use Rattle.game.specs.declared.matches.Next.{Next}
 use Rattle.game.specs.Loads.{row_is}
 use Rattle.game.specs.Turns.{Match, as_ready, as_waiting, as_ended, number_of, Offers}
-use Rattle.game.specs.Settling.{still_offers, settling, Settled, Settles, next_row, leads, ready_at}
+use Rattle.game.specs.Settling.{still_offers, settling, Settled, Settles, leads, ready_at}
 use Rattle.game.specs.Law.{Call, gave, put, Run, opened, offer as offers, settle, refuse, ask, look}
 use Rattle.game.specs.Law.{items, placed_items, accepted, carried, ToldRight, IsOver, IsEscape, Reaches, KeptAfter, Keeps, reached}
 use Rattle.game.proofs.RowLoads.{row_is_reached, sum_light}
-use Rattle.game.proofs.Progress.{Playing, State, Carrying, admitted_size, led_number, settled_state, settled_loads}
+use Rattle.game.proofs.Progress.{Playing, State, Carrying, admitted_size, leads_number, settled_state, settled_loads}
 
 -- what holds after the calls, over what is read off them
 pub record Holding (c : Certificate) (gs ps : List ℕ) (n : ℕ) (load : ℕ → ℕ) (x : Match) (loads : List ℕ) : Type 0 where
@@ -31,13 +31,14 @@ pub record Holding (c : Certificate) (gs ps : List ℕ) (n : ℕ) (load : ℕ �
   pub carrying : Carrying c load loads
   pub number : number_of x ≡ n
 
+-- the same, read off the calls, with every question answered right
 abbrev pub Held : Certificate → List Call → Match → List ℕ → Type 0
 Held c cs x loads = Holding c (items cs) (placed_items cs) (accepted cs) (λ b. carried cs b) x loads × ToldRight cs
 
 -- all tests of a settlement pass
-passes : (a b d e f g : Bool) → a ≡ false → b ≡ false → d ≡ false → e ≡ false → f ≡ false → g ≡ false
+passes : {a b d e f g : Bool} → a ≡ false → b ≡ false → d ≡ false → e ≡ false → f ≡ false → g ≡ false
     → next_after (judge_all (whole 34 a ∷ (whole 35 b ∷ (whole 36 d ∷ (whole 37 e ∷ []))))) (judge_all (whole 38 f ∷ (whole 39 g ∷ []))) ≡ Ok tt
-passes a b d e f g p q r s t u =
+passes p q r s t u =
     λ i. next_after (judge_all (whole 34 (p i) ∷ (whole 35 (q i) ∷ (whole 36 (r i) ∷ (whole 37 (s i) ∷ []))))) (judge_all (whole 38 (t i) ∷ (whole 39 (u i) ∷ [])))
 
 -- an outcome is not both over and an escape
@@ -51,9 +52,7 @@ accepts : (c : Certificate) (w : Waiting) (token : Item) (bytes loads : List ℕ
     → (answer : Result Next Declined) (token' : Item) (bytes' loads' : List ℕ) → Settles c w token bytes loads answer token' bytes' loads' → is_ok answer ≡ true
 accepts c w token bytes loads same e (Ok next) token' bytes' loads' h = refl
 accepts c w token bytes loads same e (Err d) token' bytes' loads' h =
-    let clash : Ok tt ≡ Err d.fault = sym e ∙ (ap (λ s. settling c w s (length bytes) loads) (sym same) ∙ h.faulty) in
-    let z : ◌≡◌ {A = ℕ} 0 1 = cc in
-    absurd (omega arith)
+    let clash : Ok tt ≡ Err d.fault = sym e ∙ (ap (λ s. settling c w s (length bytes) loads) (sym same) ∙ h.faulty) in cc
 
 module _ (c : Certificate) (lawful : Lawful c) (winning : Winning c) where
   -- ---- what the law says follows
@@ -69,53 +68,53 @@ module _ (c : Certificate) (lawful : Lawful c) (winning : Winning c) where
       let small : s ≤ 127 = omega (arith, range.1, lawful.some_capacity.1) in
       let some : 1 ≤ s = omega (arith, range.0) in
       let light = sum_light c lawful loads el p.below in
-      let fits : w.count < len / 2 = omega arith in
-      let row-there = not_from_true (still_offers c i s) (and_from (ltb i (row_count c)) (eqb (offer c i) s) (lt-ltb i (row_count c) there) (eq-eqb (offer c i) s (sym es))) in
+      let row_there : not (still_offers c i s) ≡ false = grind (arith, nat_tests) in
       let row_same = not_from_true (row_is (row c i).loads loads) (row_is_reached c lawful winning loads i el p.stands) in
-      let item-same = not_from_true (eqb s s) (eq-eqb s s refl) in
-      let long = lt-leb (len / 2) w.count fits in
-      let sized = or_from (eqb s 0) (ltb most_size s) (ne_eqb s 0 (λ e. omega arith)) (le-ltb most_size s small) in
+      let item_same : not (eqb s s) ≡ false = grind (arith, nat_tests) in
+      let long = lt-leb (len / 2) w.count (omega arith) in
+      let sized : (eqb s 0 || ltb most_size s) ≡ false = grind (arith, nat_tests) in
       let loaded = le-ltb most_total (sum loads + s) (omega arith) in
-      passes (not (still_offers c i s)) (not (row_is (row c i).loads loads)) (not (eqb s s)) (leb (len / 2) w.count) (eqb s 0 || ltb most_size s) (ltb most_total (sum loads + s))
-      row-there row_same item-same long sized loaded
+      passes row_there row_same item_same long sized loaded
 
   -- no bin reaches the target where all are below it
   none_reaches : (cs : List Call) (loads : List ℕ) → Carrying c (λ b. carried cs b) loads → ((b : ℕ) → b < c.bins → get_or loads b 0 < c.target) → Reaches c cs → ⊥
   none_reaches cs loads h below r = omega (arith, below r.0 r.1, h.1 r.0 r.1, r.2)
 
+  -- so the law holds after the calls
   kept : (cs : List Call) (x : Match) (loads : List ℕ) → Held c cs x loads → KeptAfter c cs x loads
   kept cs (as_ready m) loads (h, answers) =
-      let p = h.state.1 in
+      let (ks, p, given, shown) = h.state in
       let room = offer_in_bound c lawful winning p.stands in
+      let none_waits = append-nil (placed_items cs) in
       record {
-        fits = subst (λ xs. Fit c.bins c.capacity xs) (sym h.state.2) (placed_fit c winning p.stands);
+        fits = rw given (placed_fit c winning p.stands);
         no_escape = λ e. e;
         ends = λ e. e;
         over = ((λ e. absurd e), none_reaches cs loads h.carrying p.below);
         counted = (h.number, answers);
         few = omega (arith, p.number);
         last = λ e. omega (arith, p.number);
-        placed = h.state.2 ∙ (sym p.placed ∙ sym (append-nil (placed_items cs)));
+        placed = cc p.placed;
         bins_carry = h.carrying;
         named = tt;
         welcome = tt;
       }
   kept cs (as_waiting m) loads (h, answers) =
-      let ks = h.state.0 in
-      let p = h.state.1 in
+      let (ks, p, given, shown) = h.state in
       let room = offer_in_bound c lawful winning p.stands in
+      let one_more = map_push (size c) ks (offered c m.row) in
       record {
-        fits = subst (λ xs. Fit c.bins c.capacity xs) (sym h.state.2) (offer_fits c lawful winning p.stands);
+        fits = rw given (offer_fits c lawful winning p.stands);
         no_escape = λ e. e;
         ends = λ e. e;
         over = ((λ e. absurd e), none_reaches cs loads h.carrying p.below);
         counted = (h.number, answers);
         few = omega (arith, p.number);
         last = λ e. omega (arith, p.number);
-        placed = h.state.2 ∙ (map_push (size c) ks (offered c m.row) ∙ (λ i. sym p.placed i ++ sym h.state.3 i ∷ []));
+        placed = cc p.placed;
         bins_carry = h.carrying;
         named = tt;
-        welcome = λ token bytes same room. accepts c m token bytes loads same (welcomes m loads p h.state.3 h.carrying.0 h.number (length bytes) room);
+        welcome = λ token bytes same room. accepts c m token bytes loads same (welcomes m loads p shown h.carrying.0 h.number (length bytes) room);
       }
   kept cs (as_ended m) loads (h, answers) =
       let e = h.state in
@@ -136,15 +135,14 @@ module _ (c : Certificate) (lawful : Lawful c) (winning : Winning c) where
 
   -- ---- each call keeps it
 
+  -- an offer does
   offer_step : (cs : List Call) (r : Ready) (w : Waiting) (token : Item) (loads : List ℕ) → Held c cs (as_ready r) loads → Offers r w token → Held c (gave token.size ∷ cs) (as_waiting w) loads
   offer_step cs r w token loads (h, answers) (ew, et) =
-      let shown : Waiting = record { row = r.row; size = r.size; count = r.count } in
-      let ks = h.state.0 in
-      let given : items cs ++ r.size ∷ [] ≡ map (size c) (ks ++ offered c r.row ∷ []) = (λ i. h.state.2 i ++ h.state.3 i ∷ []) ∙ sym (map_push (size c) ks (offered c r.row)) in
-      let base : Held c (gave r.size ∷ cs) (as_waiting shown) loads = (record { state = (ks, h.state.1, given, h.state.3); carrying = h.carrying; number = h.number }, answers) in
-      subst (λ (x : Waiting). Held c (gave token.size ∷ cs) (as_waiting x) loads) (sym ew)
-      (subst (λ (t : Item). Held c (gave t.size ∷ cs) (as_waiting shown) loads) (sym et) base)
+      let (ks, playing, placed, shown) = h.state in
+      let given : items cs ++ r.size ∷ [] ≡ map (size c) (ks ++ offered c r.row ∷ []) = (λ i. placed i ++ shown i ∷ []) ∙ sym (map_push (size c) ks (offered c r.row)) in
+      rw (ew, et) (record { state = (ks, playing, given, shown); carrying = h.carrying; number = h.number }, answers)
 
+  -- an accepted settlement does
   settle_step :
       (cs : List Call) (w : Waiting) (loads : List ℕ) (token : Item) (bytes : List ℕ) (b : ℕ) (next : Next) (token' : Item) (bytes' loads' : List ℕ)
       → Held c cs (as_waiting w) loads → Settled c w token bytes loads b next token' bytes' loads' → Held c (put token.size b ∷ cs) (reached next) loads'
@@ -158,17 +156,9 @@ module _ (c : Certificate) (lawful : Lawful c) (winning : Winning c) where
       let same : token.size ≡ s = admitted_size c w token.size (length bytes) loads settled.admitted ∙ st.3 in
       let state = settled_state c lawful winning st.0 (items cs) (placed_items cs) loads i n b st.1 st.2 h.carrying.0 there in
       let carrying = settled_loads c lawful winning st.0 (items cs) (placed_items cs) loads i n b st.1 st.2 h.carrying.0 there (λ x. carried cs x) h.carrying.1 in
-      let base : Held c (put s b ∷ cs) (reached (leads c (n + 1) i b v s)) (raised loads b s) = (record { state = state; carrying = carrying; number = led_number c (n + 1) b (v + s) (leb c.target (v + s)) (next_row c i v) }, answers) in
       let leading : next ≡ leads c (n + 1) i b v s = settled.leading ∙ (λ t. leads c (h.number t + 1) i b v (same t)) in
       let after : loads' ≡ raised loads b s = settled.placed ∙ ap (raised loads b) same in
-      subst (λ (y : ℕ). Held c (put y b ∷ cs) (reached next) loads') (sym same)
-      (subst (λ (x : Next). Held c (put s b ∷ cs) (reached x) loads') (sym leading)
-      (subst (λ (ys : List ℕ). Held c (put s b ∷ cs) (reached (leads c (n + 1) i b v s)) ys) (sym after) base))
-
-  refuse_step :
-      (cs : List Call) (w w' : Waiting) (loads loads' : List ℕ) → Held c cs (as_waiting w) loads → w' ≡ w → loads' ≡ loads → Held c cs (as_waiting w') loads'
-  refuse_step cs w w' loads loads' h ew el =
-      subst (λ (x : Waiting). Held c cs (as_waiting x) loads') (sym ew) (subst (λ (ys : List ℕ). Held c cs (as_waiting w) ys) (sym el) h)
+      rw (same, leading, after) (record { state = state; carrying = carrying; number = leads_number c (n + 1) i b v s }, answers)
 
   -- the row of the empty position, with bins that are empty
   start_held : (i : ℕ) (loads : List ℕ) → Stands c (empty_loads c) (empty_counts c) i → length loads ≡ c.bins → ((b : ℕ) → b < c.bins → get_or loads b 0 ≡ 0) → Held c [] (as_ready (ready_at c i 0)) loads
@@ -188,12 +178,13 @@ module _ (c : Certificate) (lawful : Lawful c) (winning : Winning c) where
     along (offers {cs} {r} {now} w token run h) = offer_step cs r w token now (along run) h
     along (settle {cs} {w} {now} token bytes b next token' bytes' now' run h) = settle_step cs w now token bytes b next token' bytes' now' (along run) h
     along (refuse {cs} {w} {now} token bytes f w' token' bytes' now' run h) =
-        refuse_step cs w w' now now' (along run) h.match_kept h.loads_kept
+        rw (h.match_kept, h.loads_kept) (along run)
     along (ask {cs} {x} {now} n run e) = ((along run).0, (e ∙ (along run).0.number, (along run).1))
     along (look {cs} {w} {now} s run e) =
         let all = (kept cs (as_waiting w) now (along run)).placed in
         ((along run).0, (all ∙ ap (λ y. placed_items cs ++ y ∷ []) (sym e), (along run).1))
 
+    -- so the match keeps the law
     pub keeps : Keeps c loads m
     keeps cs x now run = kept cs x now (along run)
 

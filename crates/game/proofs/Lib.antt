@@ -1,4 +1,4 @@
-pub mod Counts
+pub mod Places
 pub mod RowLoads
 pub mod Progress
 pub mod Keeping

@@ -1,13 +1,15 @@
 -- What holds along every list of calls, over the values that are read off the list, and each step that keeps it.
-use Rattle.std.proofs.Common.{◌≡◌, ℕ, ◌+◌, ◌<◌, ◌≤◌, Bool, true, false, cond, not, eqb, leb, List, [], ◌∷◌, ◌++◌, map, length, get_or, Some, None, Ok, Option, sym, refl, ap, ◌∙◌, subst, inl, inr, arith}
-use Rattle.std.proofs.lemmas.Bool.{both_ways, not-false, eqb-true, eq-eqb, leb-true, leb-false, cases_Bool, cases_eq}
-use Rattle.std.proofs.lemmas.List.{map_push, length_push, length-set, get_or-set_same, get_or-set_other}
+use Rattle.std.proofs.Common.{◌≡◌, ℕ, ◌+◌, ◌<◌, ◌≤◌, Bool, true, false, cond, eqb, leb, List, [], ◌∷◌, ◌++◌, map, length, get_or, Some, None, Ok, Option, sym, refl, ap, ◌∙◌, inl, inr, arith}
+use Rattle.std.proofs.lemmas.Bool.{both_ways, not-false, eqb-true, eq-eqb, leb-true, leb-false, cases_Bool}
+use Rattle.std.proofs.lemmas.Bool.Decides.{nat_tests}
+use Rattle.std.proofs.lemmas.List.{map_push, length_push, length-set, get_or-set_same}
 use Rattle.certificate.specs.Certificates.{Certificate, row, size, load, offered}
 use Rattle.certificate.specs.Lawful.{Lawful}
 use Rattle.certificate.specs.Rules.{judge_all}
 use Rattle.certificate.proofs.Firsts.{none_quiet, some_least}
 use Rattle.certificate.proofs.Finding.{stands_found}
-use Rattle.certificate.proofs.Rules.{next_after_ok, passed, whole_passed}
+use Rattle.certificate.proofs.Judged.{hold_from_judge_all}
+use Rattle.certificate.proofs.Rules.{next_after_ok}
 use Rattle.positions.specs.Positions.{next_loads, next_counts, offer}
 use Rattle.plan.specs.Plan.{bound}
 use Rattle.plan.specs.Winning.{Winning}
@@ -17,7 +19,7 @@ use Rattle.players.specs.Placing.{declined, raised}
 use Rattle.game.specs.declared.matches.Waiting.{Waiting}
 use Rattle.game.specs.declared.matches.Ended.{Ended}
 use Rattle.game.specs.Turns.{Match, as_ready, as_waiting, as_ended, number_of}
-use Rattle.game.specs.Settling.{settling, settling_rules, row_rule, loads_rule, item_rule, record_rule, bears, place_of, row_after, next_row, led, leads, ready_at}
+use Rattle.game.specs.Settling.{settling, settling_rules, bears, place_of, row_after, next_row, led, leads, ready_at}
 use Rattle.game.specs.Law.{IsOver, reached}
 
 -- the match goes on: items of the classes ks were placed, row i stands for that, and no bin carries the target
@@ -54,16 +56,15 @@ Carrying c load loads = (length loads ≡ c.bins) × ((b : ℕ) → b < c.bins �
 -- a settlement that is admitted is of the size shown
 pub admitted_size : (c : Certificate) (w : Waiting) (s len : ℕ) (loads : List ℕ) → settling c w s len loads ≡ Ok tt → s ≡ w.size
 admitted_size c w s len loads e =
-    let all = next_after_ok (judge_all (settling_rules c w s len loads)) (declined loads s) tt e in
-    let first = passed (row_rule c w) (loads_rule c w loads ∷ (item_rule w s ∷ (record_rule w len ∷ []))) all.0 in
-    let second = passed (loads_rule c w loads) (item_rule w s ∷ (record_rule w len ∷ [])) first.1 in
-    let third = passed (item_rule w s) (record_rule w len ∷ []) second.1 in
-    eqb-true s w.size (not-false (eqb s w.size) (whole_passed 36 (not (eqb s w.size)) third.0))
+    let rules = settling_rules c w s len loads in
+    let hold = hold_from_judge_all rules (next_after_ok (judge_all rules) (declined loads s) tt e).0 in
+    eqb-true s w.size (not-false (eqb s w.size) (hold.1.1.0 0 0 (omega arith) (omega arith)))
 
 -- ---- the row that follows
 
 module _ (c : Certificate) (lawful : Lawful c) (winning : Winning c) (ks : List ℕ) (loads : List ℕ) (i b : ℕ)
     (r : Reached c ks (λ x. get_or loads x 0) i) (l : b < c.bins) (below : get_or loads b 0 + offer c i < c.target) where
+  -- what the bin carried
   abbrev v : ℕ
   v = get_or loads b 0
 
@@ -71,6 +72,7 @@ module _ (c : Certificate) (lawful : Lawful c) (winning : Winning c) (ks : List 
   abbrev Found : Type 0
   Found = (j : ℕ) × (next : ℕ) × (j < c.bins) × (load c i j ≡ v) × Follows c i j next × (next_row c i v ≡ Some next)
 
+  -- the first place that has the bin's load, by cases
   found_at : (o : Option ℕ) → place_of c i v ≡ o → Found
   found_at None e =
       let place = place_of_bin c lawful b r l in
@@ -89,16 +91,21 @@ module _ (c : Certificate) (lawful : Lawful c) (winning : Winning c) (ks : List 
 -- ---- a settlement
 
 -- however it leads on, the number of settlements is the one given
-pub led_number : (c : Certificate) (n b v : ℕ) (t : Bool) (o : Option ℕ) → number_of (reached (led c n b v t o)) ≡ n
-led_number c n b v true o = refl
-led_number c n b v false None = refl
-led_number c n b v false (Some i) = refl
+pub leads_number : (c : Certificate) (n i b v s : ℕ) → number_of (reached (leads c n i b v s)) ≡ n
+leads_number c n i b v s = step (leb c.target (v + s)) (next_row c i v)
+  where
+    step : (over : Bool) (found : Option ℕ) → number_of (reached (led c n b (v + s) over found)) ≡ n
+    step true found = refl
+    step false None = refl
+    step false (Some j) = refl
 
 module _ (c : Certificate) (lawful : Lawful c) (winning : Winning c) (ks gs ps loads : List ℕ) (i n b : ℕ)
     (p : Playing c ks ps loads i n) (given : gs ≡ map (size c) (ks ++ offered c i ∷ [])) (whole : length loads ≡ c.bins) (l : b < c.bins) where
+  -- the item's size
   abbrev s : ℕ
   s = offer c i
 
+  -- the bin is the player's
   inside : b < length loads
   inside = omega (arith, whole)
 
@@ -106,13 +113,14 @@ module _ (c : Certificate) (lawful : Lawful c) (winning : Winning c) (ks gs ps l
   all_placed : ps ++ s ∷ [] ≡ map (size c) (ks ++ offered c i ∷ [])
   all_placed = ap (λ xs. xs ++ s ∷ []) p.placed ∙ sym (map_push (size c) ks (offered c i))
 
+  -- the bin carries the item too
   own : get_or (raised loads b s) b 0 ≡ get_or loads b 0 + s
   own = get_or-set_same loads b (get_or loads b 0 + s) 0 inside
 
   -- the bin reaches the target
   finishes : c.target ≤ get_or loads b 0 + s → State c gs (ps ++ s ∷ []) (n + 1) (raised loads b s) (reached (led c (n + 1) b (get_or loads b 0 + s) true (next_row c i (get_or loads b 0))))
   finishes high = record {
-    fits = subst (λ xs. Fit c.bins c.capacity xs) (sym given) (offer_fits c lawful winning p.stands);
+    fits = rw given (offer_fits c lawful winning p.stands);
     placed = given ∙ sym all_placed;
     few = omega (arith, p.number, offer_in_bound c lawful winning p.stands);
     is_over = tt;
@@ -124,10 +132,9 @@ module _ (c : Certificate) (lawful : Lawful c) (winning : Winning c) (ks gs ps l
   -- no bin carries the target yet
   still_below : get_or loads b 0 + s < c.target → (x : ℕ) → x < c.bins → get_or (raised loads b s) x 0 < c.target
   still_below low x q =
-      elim (cases_eq x b) [
-        | inl e ↦ subst (λ y. get_or (raised loads b s) y 0 < c.target) (sym e) (omega (arith, own))
-        | inr ne ↦ omega (arith, p.below x q, get_or-set_other loads b x (get_or loads b 0 + s) 0 ne)
-      ]
+      let below = p.below x q in
+      let now = raised_set loads b s x inside in
+      grind (arith, nat_tests)
 
   -- the match is ready at the row that follows
   goes_on : get_or loads b 0 + s < c.target → (j next : ℕ) → j < c.bins → load c i j ≡ get_or loads b 0 → Follows c i j next
@@ -147,14 +154,12 @@ module _ (c : Certificate) (lawful : Lawful c) (winning : Winning c) (ks gs ps l
   pub settled_state : State c gs (ps ++ s ∷ []) (n + 1) (raised loads b s) (reached (leads c (n + 1) i b (get_or loads b 0) s))
   settled_state =
       let v = get_or loads b 0 in
-      let After : Bool → Option ℕ → Type 0 = λ t o. State c gs (ps ++ s ∷ []) (n + 1) (raised loads b s) (reached (led c (n + 1) b (v + s) t o)) in
       elim (cases_Bool (leb c.target (v + s))) [
-        | inl e ↦ subst (λ t. After t (next_row c i v)) (sym e) (finishes (leb-true c.target (v + s) e))
+        | inl e ↦ rw e (finishes (leb-true c.target (v + s) e))
         | inr e ↦
             let low = leb-false c.target (v + s) e in
-            let found = row_found c lawful winning ks loads i b p.stands l low in
-            let on = goes_on low found.0 found.1 found.2 found.3 found.4 in
-            subst (λ t. After t (next_row c i v)) (sym e) (subst (λ o. After false o) (sym found.5) on)
+            let (j, next, there, same, follows, found) = row_found c lawful winning ks loads i b p.stands l low in
+            rw (e, found) (goes_on low j next there same follows)
       ]
 
   -- the loads that a settlement leaves

@@ -3,3 +3,4 @@ pub mod Loads
 pub mod Settling
 pub mod Opening
 pub mod Law
+pub mod Outcomes

@@ -38,7 +38,7 @@ offered_by m = record { size = m.size }
 
 -- an offer: the match waits at the same row, and it and the item show the size that the row offers
 abbrev pub Offers : Ready → Waiting → Item → Type 0
-Offers m w item = (w ≡ record { row = m.row; size = m.size; count = m.count }) × (item ≡ record { size = m.size })
+Offers m w item = (w ≡ waits m) × (item ≡ offered_by m)
 
 -- an item that is spent
 abbrev pub spent : Item

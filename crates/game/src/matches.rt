@@ -1,7 +1,9 @@
 // The states of a match, and the item that lies on the table beside it.
-ghost use Rattle.std.specs.Prelude.{◌≡◌};
+ghost use Rattle.std.specs.Prelude.{◌≡◌, Some};
+ghost use Rattle.game.specs.Outcomes.{outcome_word};
 
 use certificate::fault::Fault;
+use std::fmt;
 
 pub mod ending;
 pub mod forfeiting;
@@ -16,6 +18,19 @@ pub enum Outcome {
     Over,
     Escape,
     Forfeit,
+}
+
+// As the sheet names it.
+impl fmt::Display for Outcome {
+    ghost output = { λ o. Some (outcome_word o) };
+
+    fn fmt<W: fmt::Write>(&self, f: &mut fmt::Formatter<W>) -> fmt::Result {
+        f.write_str(match self {
+            Outcome::Over => "over",
+            Outcome::Escape => "escape",
+            Outcome::Forfeit => "forfeit",
+        })
+    }
 }
 
 // A match that can offer: its row, the size that the row offers, and how many settlements were accepted.

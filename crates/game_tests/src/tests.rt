@@ -15,45 +15,41 @@ use std::test::Fail;
 // The two-bin table with some bytes changed.
 pub fn two_bins(heap: Global, changes: &[(usize, u8)]) -> Result<FlatTable, Fail> {
     let mut bytes = TWO_BINS.to_vec(heap)?;
-    for change in changes {
-        if let Some(byte) = bytes.get_mut(change.0) {
-            *byte = change.1;
+    for (place, value) in changes {
+        if let Some(byte) = bytes.get_mut(*place) {
+            *byte = *value;
         }
     }
-    match FlatTable::open(bytes) {
-        Ok(table) => Ok(table),
-        Err(_) => Err(Fail::new("the table did not open")),
-    }
+    FlatTable::open(bytes).map_err(|_| Fail::new("the table did not open"))
 }
 
-fn fault_of<T: Drop>(answer: Result<T, Fault>) -> (u8, usize, usize) {
-    match answer {
-        Ok(_) => (0, 0, 0),
-        Err(fault) => (fault.number, fault.first, fault.second),
-    }
+// How a played match ended, and the loads of its two bins.
+fn played<P: Player>(
+    table: &FlatTable,
+    player: &mut P,
+    record: &mut [u8],
+) -> Result<((Outcome, usize, u16, usize), [Option<u16>; 2]), Fault> {
+    let ended = play(table, player, record)?;
+    Ok((ended.result(), [player.load(0), player.load(1)]))
 }
 
 #[test]
 fn best_fit(rt: HostRuntime) -> Result<(), Fail> {
     let table = two_bins(rt.alloc(), &[])?;
-    let mut player = BestFit::new(2, 4)?;
     let mut record = [9; 10];
-    let ended = play(&table, &mut player, &mut record)?;
-    assert_eq!(rt; ended.result(), (Outcome::Over, 0, 4, 4));
+    let ended = played(&table, &mut BestFit::new(2, 4)?, &mut record)?;
+    assert_eq!(rt; ended, ((Outcome::Over, 0, 4, 4), [Some(4), Some(2)]));
     assert!(rt; record == [1, 0, 1, 0, 2, 1, 2, 0, 9, 9]);
-    assert_eq!(rt; (player.load(0), player.load(1)), (Some(4), Some(2)));
     Ok(())
 }
 
 #[test]
 fn threshold(rt: HostRuntime) -> Result<(), Fail> {
     let table = two_bins(rt.alloc(), &[])?;
-    let mut player = Threshold::new(2, 1)?;
     let mut record = [9; 6];
-    let ended = play(&table, &mut player, &mut record)?;
-    assert_eq!(rt; ended.result(), (Outcome::Over, 0, 4, 3));
+    let ended = played(&table, &mut Threshold::new(2, 1)?, &mut record)?;
+    assert_eq!(rt; ended, ((Outcome::Over, 0, 4, 3), [Some(4), Some(1)]));
     assert!(rt; record == [1, 0, 1, 1, 3, 0]);
-    assert_eq!(rt; (player.load(0), player.load(1)), (Some(4), Some(1)));
     Ok(())
 }
 
@@ -62,12 +58,19 @@ fn threshold(rt: HostRuntime) -> Result<(), Fail> {
 fn declined(rt: HostRuntime) -> Result<(), Fail> {
     let table = two_bins(rt.alloc(), &[])?;
     let mut player = Threshold::new(2, 1)?;
-    let short = play(&table, &mut player, &mut [0; 5]);
-    assert_eq!(rt; short.is_ok(), false);
-    let other = open_match(&table, &BestFit::new(3, 4)?);
-    assert_eq!(rt; other.is_ok(), false);
-    let moved = open_match(&table, &player);
-    assert_eq!(rt; moved.is_ok(), false);
+    let faults = [
+        play(&table, &mut player, &mut [0; 5]).err(),
+        open_match(&table, &BestFit::new(3, 4)?).err(),
+        open_match(&table, &player).err(),
+    ];
+    assert_eq!(rt;
+        faults,
+        [
+            Some(Fault::of(37)),
+            Some(Fault::of(32)),
+            Some(Fault::of(33))
+        ]
+    );
     Ok(())
 }
 
@@ -76,26 +79,31 @@ fn declined(rt: HostRuntime) -> Result<(), Fail> {
 fn opening(rt: HostRuntime) -> Result<(), Fail> {
     let heap = rt.alloc();
     let table = two_bins(heap, &[])?;
-    let no_start = two_bins(heap, &[(13, 1)])?;
-    assert_eq!(rt;
-        fault_of(open_match(&no_start, &BestFit::new(3, 4)?)),
-        (31, 0, 0)
-    );
-    assert_eq!(rt;
-        fault_of(open_match(&table, &BestFit::new(3, 4)?)),
-        (32, 0, 0)
-    );
     let mut loaded = BestFit::new(2, 4)?;
     loaded.place(1)?;
-    assert_eq!(rt; fault_of(open_match(&table, &loaded)), (33, 0, 0));
-    let Ok(mut second) = Book::open([2, 0, 1, 0, 0, 1, 1].to_vec(heap)?) else {
-        return Err(Fail::new("the book did not open"));
-    };
+    let mut second = Book::open([2, 0, 1, 0, 0, 1, 1].to_vec(heap)?).map_err(Fault::from)?;
     second.place(1)?;
-    assert_eq!(rt; fault_of(open_match(&table, &second)), (33, 1, 0));
+    let faults = [
+        open_match(&two_bins(heap, &[(13, 1)])?, &BestFit::new(3, 4)?).err(),
+        open_match(&table, &BestFit::new(3, 4)?).err(),
+        open_match(&table, &loaded).err(),
+        open_match(&table, &second).err(),
+        open_match(&table, &BestFit::new(2, 4)?).err(),
+    ];
+    let second_bin = Fault {
+        number: 33,
+        first: 1,
+        second: 0,
+    };
     assert_eq!(rt;
-        fault_of(open_match(&table, &BestFit::new(2, 4)?)),
-        (0, 0, 0)
+        faults,
+        [
+            Some(Fault::of(31)),
+            Some(Fault::of(32)),
+            Some(Fault::of(33)),
+            Some(second_bin),
+            None
+        ]
     );
     Ok(())
 }
@@ -107,7 +115,10 @@ fn stopped(rt: HostRuntime) -> Result<(), Fail> {
     let table = two_bins(heap, &[])?;
     let mut player = Threshold::new(2, 1)?;
     let mut short = [9; 5];
-    assert_eq!(rt; fault_of(play(&table, &mut player, &mut short)), (37, 0, 0));
+    assert_eq!(rt;
+        play(&table, &mut player, &mut short).err(),
+        Some(Fault::of(37))
+    );
     assert!(rt; short == [1, 0, 1, 1, 9]);
     assert_eq!(rt; (player.load(0), player.load(1)), (Some(1), Some(1)));
     let higher = two_bins(heap, &[(2, 5)])?;

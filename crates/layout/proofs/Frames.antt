@@ -19,17 +19,6 @@ framed file h =
     ap (λ b. next_after (judged (whole 1 b)) (judge_all (range_rules (header_of file) ++ (length_rule file ∷ [])))) (le-ltb (length file) header_length h)
     ∙ (judge_append (range_rules (header_of file)) (length_rule file ∷ []) ∙ ap (next_after (judge_all (range_rules (header_of file)))) (judge_one (length_rule file)))
 
--- how many bytes follow the header
-behind : (file : List ℕ) → length (take (length file - header_length) (drop header_length file)) ≡ length file - header_length
-behind file = ap length (take_rest file header_length) ∙ length-drop header_length file
-
--- the ranges hold, and what follows the header has another length
-pub wrong_length : (file : List ℕ) → header_length ≤ length file → judge_all (range_rules (header_of file)) ≡ Ok tt → (length (take (length file - header_length) (drop header_length file)) ≡ body_length (header_of file) → ⊥) → header_read file ≡ Err (fault 7 0 0)
-wrong_length file h e n =
-    let m : length file ≡ header_length + body_length (header_of file) → ⊥ = λ q. n (behind file ∙ omega arith) in
-    ap (λ a. next_after a (Ok (header_of file))) (framed file h
-    ∙ (ap (λ a. next_after a (judged (length_rule file))) e ∙ ap (λ b. judged (whole 7 (not b))) (ne_eqb (length file) (header_length + body_length (header_of file)) m)))
-
 -- a value that passes its range rule is in the range
 pub range_passed : (n low high v : ℕ) → judged (range_rule n low high v) ≡ Ok tt → (low ≤ v) × (v ≤ high)
 range_passed n low high v e =

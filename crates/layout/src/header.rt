@@ -20,21 +20,21 @@ impl Header {
     pub fn position_length(&self) -> usize
         ensures { result ≡ position_length self.now }
     {
-        self.bins as usize + self.classes as usize
+        usize::from(self.bins) + usize::from(self.classes)
     }
 
     // How many bytes an answer takes: the class offered, and K counts for each of m packing bins.
     pub fn answer_length(&self) -> usize
         ensures { result ≡ answer_length self.now }
     {
-        1 + self.bins as usize * self.classes as usize
+        1 + usize::from(self.bins) * usize::from(self.classes)
     }
 
     // How many bytes follow the header: K sizes, N positions and N answers.
     pub fn body_length(&self) -> usize
         ensures { result ≡ body_length self.now }
     {
-        let rows = self.rows as usize;
-        self.classes as usize + (rows * self.position_length() + rows * self.answer_length())
+        let rows = usize::from(self.rows);
+        usize::from(self.classes) + (rows * self.position_length() + rows * self.answer_length())
     }
 }

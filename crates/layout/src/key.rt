@@ -1,53 +1,47 @@
 // A position as the bytes that a file holds of it.
-ghost use Rattle.std.specs.Prelude.{◌≡◌, ◌≤◌, ◌++◌, take, MatchBool, MatchOption};
-ghost use Rattle.layout.specs.Keys.{Unspelled, NoRoom, Appended};
+ghost use Rattle.std.specs.Prelude.{◌≡◌, [], ◌++◌, length, MatchOption};
+ghost use Rattle.layout.specs.Keys.{Unspelled, NoRoom};
 
-// The most bytes of a position: 8 loads and 32 counts.
-const MOST: usize = 40;
+use arrayvec::ArrayVec;
+use certificate::limits::{MOST_BINS, MOST_CLASSES};
 
-const MOST_BYTE: u32 = 255;
+// The most bytes of a position: its loads and its counts.
+const MOST: usize = MOST_BINS + MOST_CLASSES;
 
-#[derive(Clone, Copy)]
+#[derive(Drop)]
 pub struct PositionKey {
-    bytes: [u8; MOST],
-    length: usize,
-    ghost within: { length ≤ 40 },
+    bytes: ArrayVec<u8, MOST>,
 }
 
 impl PositionKey {
     // The bytes of a position; none where it is too long, or a number is above 255.
+    #[tactic(auto, using(crate::proofs::Spelling::unspelled_left, crate::proofs::Spelling::unspelled_right))]
     pub fn spell(loads: &[u32], counts: &[u32]) -> Option<PositionKey>
-        ensures { MatchOption result (Unspelled (loads.now ++ counts.now)) (λ k. take k.length k.bytes ≡ loads.now ++ counts.now) }
+        ensures { MatchOption result (Unspelled (loads.now ++ counts.now)) (λ k. k.bytes.items ≡ loads.now ++ counts.now) }
     {
         let mut key = PositionKey {
-            bytes: [0; MOST],
-            length: 0,
+            bytes: ArrayVec::new(),
         };
-        if key.append(loads) && key.append(counts) {
-            Some(key)
-        } else {
-            None
-        }
+        key.append(loads)?;
+        key.append(counts)?;
+        Some(key)
     }
 
     // The bytes.
     pub fn as_bytes(&self) -> &[u8]
-        ensures { result.now ≡ take self.now.length self.now.bytes }
+        ensures { result.now ≡ self.now.bytes.items }
     {
-        &self.bytes[0..self.length]
+        self.bytes.as_slice()
     }
 
-    // Adds numbers, as far as there is room and each is a byte; whether all were added.
-    fn append(&mut self, numbers: &[u32]) -> bool
-        ensures { MatchBool result (Appended self.old.length self.old.bytes numbers.now self.new.length self.new.bytes) (NoRoom self.old.length numbers.now) }
+    // Adds numbers; none where there is no room for one, or one is not a byte.
+    fn append(&mut self, numbers: &[u32]) -> Option<()>
+        ensures { MatchOption result (NoRoom (length self.old.bytes.items) numbers.now) (λ _. self.new.bytes.items ≡ self.old.bytes.items ++ numbers.now) }
     {
         for number in numbers {
-            if self.length >= MOST || *number > MOST_BYTE {
-                return false;
-            }
-            self.bytes[self.length] = *number as u8;
-            self.length += 1;
+            let byte = u8::try_from(*number).ok()?;
+            self.bytes.try_push(byte).ok()?;
         }
-        true
+        Some(())
     }
 }

@@ -1,26 +1,24 @@
 -- The lines of a printed sheet, as bytes: words and decimal numbers, a space (32) between them and a newline (10) behind.
 use Rattle.std.specs.Prelude.{ℕ, zero, suc, ◌+◌, ◌*◌, ◌/◌, List, [], ◌∷◌, ◌++◌, length, codes, decimal, slice_index}
 use Rattle.certificate.specs.declared.fault.Fault.{Fault}
+use Rattle.certificate.specs.Faults.{fault_text}
 use Rattle.plan.specs.declared.verdict.Verdict.{Verdict}
+use Rattle.plan.specs.Plan.{verdict_text}
 use Rattle.game.specs.declared.matches.Outcome.{Outcome}
-use Rattle.game.specs.declared.matches.Outcome.TheVariants.{Over, Escape, Forfeit}
+use Rattle.game.specs.Outcomes.{outcome_word}
 
 -- f 0, f 1 and so on up to f (n - 1), one behind the other
 abbrev pub upto : (ℕ → List ℕ) → ℕ → List ℕ
 upto f zero = []
 upto f (suc n) = upto f n ++ f n
 
--- a word, with its space, and two numbers
-abbrev pub pair_line : List ℕ → ℕ → ℕ → List ℕ
-pair_line word a b = word ++ (decimal a ++ (32 ∷ (decimal b ++ (10 ∷ []))))
-
 -- "accepted", the number of rows and the bound
 abbrev pub accepted_line : Verdict → List ℕ
-accepted_line v = codes "accepted " ++ (decimal v.rows ++ (32 ∷ (decimal v.bound ++ (10 ∷ []))))
+accepted_line v = codes "accepted " ++ (verdict_text v ++ (10 ∷ []))
 
 -- "refused", the number and both places
 abbrev pub refused_line : Fault → List ℕ
-refused_line f = codes "refused " ++ (decimal f.number ++ (32 ∷ (decimal f.first ++ (32 ∷ (decimal f.second ++ (10 ∷ []))))))
+refused_line f = codes "refused " ++ (fault_text f ++ (10 ∷ []))
 
 -- "match" and its number
 abbrev pub match_line : ℕ → List ℕ
@@ -40,9 +38,7 @@ record_lines bytes = upto (entry_line bytes) (length bytes / 2)
 
 -- how a match ended, the last placement's bin and its load
 abbrev pub end_line : Outcome → ℕ → ℕ → List ℕ
-end_line Over bin load = pair_line (codes "over ") bin load
-end_line Escape bin load = pair_line (codes "escape ") bin load
-end_line Forfeit bin load = pair_line (codes "forfeit ") bin load
+end_line o bin load = outcome_word o ++ (32 ∷ entry_text bin load)
 
 -- a load, with the space before it
 abbrev pub load_text : ℕ → List ℕ

@@ -1,9 +1,11 @@
 -- A sheet whose programme does not name the book is the same with every book.
-use Rattle.std.proofs.Common.{◌≡◌, ℕ, zero, suc, ◌+◌, ◌<◌, ◌≤◌, false, cond, List, [], ◌++◌, is_some, is_ok, Some, None, Ok, Err, Option, Result, refl, arith}
+use Rattle.std.proofs.Common.{◌≡◌, ℕ, zero, suc, ◌+◌, ◌<◌, ◌≤◌, true, false, cond, List, [], ◌++◌, is_ok, Ok, Err, Result, refl, arith}
+use Rattle.std.proofs.lemmas.Bool.{both_ways}
 use Rattle.certificate.specs.declared.fault.Fault.{Fault}
 use Rattle.certificate.specs.Certificates.{Certificate}
 use Rattle.certificate.specs.Rules.{first, judged}
 use Rattle.certificate.proofs.Firsts.{none_quiet}
+use Rattle.certificate.proofs.Judged.{none_from_isSome}
 use Rattle.plan.specs.declared.verdict.Verdict.{Verdict}
 use Rattle.programme.specs.declared.Entrant.{Entrant}
 use Rattle.programme.specs.declared.Entrant.TheVariants.{BestFit, Threshold, Book}
@@ -15,16 +17,12 @@ use Rattle.lines.specs.Lines.{accepted_line, match_line}
 entered_idle : (c : Certificate) (book other : List ℕ) (e : Result Entrant Fault) → is_book e ≡ false → match_entered c book e ≡ match_entered c other e
 entered_idle c book other (Ok BestFit) h = refl
 entered_idle c book other (Ok (Threshold n)) h = refl
-entered_idle c book other (Ok Book) h = let z : ◌≡◌ {A = ℕ} 0 1 = cc in absurd (omega arith)
+entered_idle c book other (Ok Book) h = absurd (both_ways true h refl)
 entered_idle c book other (Err f) h = refl
-
-none_found : (o : Option ℕ) → is_some o ≡ false → o ≡ None
-none_found None h = refl
-none_found (Some i) h = let z : ◌≡◌ {A = ℕ} 0 1 = cc in absurd (omega arith)
 
 module _ (c : Certificate) (programme book other : List ℕ) (idle : names_book programme ≡ false) where
   quiet : (k : ℕ) → k < match_count programme + 1 → book_at programme k ≡ false
-  quiet = none_quiet (book_at programme) (match_count programme + 1) (none_found (first (book_at programme) (match_count programme + 1)) idle)
+  quiet = none_quiet (book_at programme) (match_count programme + 1) (none_from_isSome (first (book_at programme) (match_count programme + 1)) idle)
 
   matches_idle : (n k : ℕ) → k + n ≤ match_count programme + 1 → matches_from c programme book k n ≡ matches_from c programme other k n
   matches_idle zero k h = refl

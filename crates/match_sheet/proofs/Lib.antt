@@ -1,3 +1,3 @@
 pub mod Entering
-pub mod Printing
 pub mod Idle
+pub mod Printing

@@ -77,9 +77,13 @@ abbrev pub programme_text : Result (Unit {0}) Fault → Certificate → List ℕ
 programme_text (Ok u) c programme book = matches_from c programme book 1 (match_count programme)
 programme_text (Err f) c programme book = refused_line f
 
+-- what is printed behind the line of an accepted certificate
+abbrev pub text_behind : Certificate → List ℕ → List ℕ → List ℕ
+text_behind c programme book = programme_text (judged (programme_rule programme)) c programme book
+
 -- what is printed behind the judgement of a certificate
 abbrev pub sheet_after : Result Verdict Fault → Certificate → List ℕ → List ℕ → List ℕ
-sheet_after (Ok v) c programme book = accepted_line v ++ programme_text (judged (programme_rule programme)) c programme book
+sheet_after (Ok v) c programme book = accepted_line v ++ text_behind c programme book
 sheet_after (Err f) c programme book = refused_line f
 
 -- the bytes that are printed for these three files

@@ -1,29 +1,18 @@
-// A certificate file opened as a flat table and checked.
+// A certificate file opened as a flat table and checked, which matches can then be played on.
 ghost use Rattle.std.specs.Prelude.{IfOk, OnOk};
-ghost use Rattle.layout.specs.Layout.{header_of};
-ghost use Rattle.plan.specs.Bound.{Forces, ForcesWithin};
-ghost use Rattle.match_sheet.specs.Judging.{JudgedAs};
+ghost use Rattle.layout.specs.Layout.{certificate_of};
+ghost use Rattle.plan.specs.Winning.{Forced, ForcedWithin};
+ghost use Rattle.sheet.specs.Judging.{JudgedAs};
 
 use certificate::fault::Fault;
-use certificate::store::Store;
-use flat::FlatTable;
-use plan::check::check;
-use plan::verdict::Verdict;
-
-// An accepted table and its verdict.
-#[derive(Drop)]
-pub struct Checked {
-    pub table: FlatTable,
-    pub verdict: Verdict,
-}
+pub use sheet::judgement::Checked;
+use sheet::judgement::checked_file;
 
 // The table and the verdict of a file, or the fault that opening or checking found.
 pub fn judge_file(file: Vec<u8>) -> Result<Checked, Fault>
     ensures answer { JudgedAs file.items result }
-    ensures forces { OnOk result (Forces (header_of (file.items)).bins (header_of (file.items)).capacity (header_of (file.items)).target) }
-    ensures within { IfOk result (λ k. ForcesWithin k.verdict.bound (header_of (file.items)).bins (header_of (file.items)).capacity (header_of (file.items)).target) }
+    ensures forces { OnOk result (Forced (certificate_of file.items)) }
+    ensures within { IfOk result (λ k. ForcedWithin k.verdict.bound (certificate_of file.items)) }
 {
-    let table = FlatTable::open(file)?;
-    let verdict = check(&table)?;
-    Ok(Checked { table, verdict })
+    checked_file(file)
 }

@@ -2,8 +2,8 @@
 ghost use Rattle.std.specs.Prelude.{◌≡◌};
 ghost use Rattle.match_sheet.specs.declared.stop.Stop.TheVariants.{Refused, Memory};
 
-use books::book::RefusedBook;
 use certificate::fault::Fault;
+use certificate::refused;
 use std::alloc::AllocError;
 
 // It was refused with a fault, or memory ran out.
@@ -21,10 +21,10 @@ impl From<Fault> for Stop {
     }
 }
 
-impl From<RefusedBook> for Stop {
+impl From<refused::Refused> for Stop {
     ghost from_gives = { λ refused stop. stop ≡ Refused refused.fault };
 
-    fn from(refused: RefusedBook) -> Stop {
+    fn from(refused: refused::Refused) -> Stop {
         Stop::Refused(refused.fault)
     }
 }

@@ -4,5 +4,4 @@ pub mod Packing
 pub mod Sizes
 pub mod Step
 pub mod Forces
-pub mod Summing
 pub mod Verdicts

@@ -1,10 +1,9 @@
 -- What an answer of the check says: acceptance is a winning plan and forces the bound, and a refusal is the least fault.
-use Rattle.std.proofs.Common.{◌≡◌, true, is_ok, Ok, Err, Decides, Result, sym, refl, ap, ◌∙◌, subst}
+use Rattle.std.proofs.Common.{◌≡◌, ◌↔◌, true, is_ok, IsOk, Ok, Err, Result, sym, refl, ap, ◌∙◌, subst}
 use Rattle.std.proofs.lemmas.Bool.{false≢true}
 use Rattle.certificate.specs.declared.fault.Fault.{Fault}
 use Rattle.certificate.specs.Rules.{judge_all, next_after}
 use Rattle.certificate.specs.Certificates.{Certificate, row_count}
-use Rattle.certificate.specs.Lawful.{Lawful}
 use Rattle.certificate.specs.Least.{Judges}
 use Rattle.certificate.proofs.Least.{judges, judges_after}
 use Rattle.plan.specs.declared.verdict.Verdict.{Verdict}
@@ -16,18 +15,17 @@ accepted_passes : {X : Type 0} (a : Result (Unit {0}) Fault) (x : X) → is_ok (
 accepted_passes (Ok u) x e = refl
 accepted_passes (Err f) x e = absurd (false≢true e)
 
-module _ {X : Type 0} (x : X) (c : Certificate) (r : Result X Fault) (answer : r ≡ next_after (judge_all (plan_rules c)) (Ok x)) where
-  -- accepted exactly where the plan is winning
-  pub passes_winning : Decides (is_ok r) (Winning c)
-  passes_winning = (
-    (λ e. winning_from_rules c (accepted_passes (judge_all (plan_rules c)) x (ap is_ok (sym answer) ∙ e))),
-    (λ w. ap is_ok (answer ∙ ap (λ a. next_after a (Ok x)) (rules_from_winning c w))),
+module _ (c : Certificate) (r : Result Verdict Fault) (answer : r ≡ verdict c) where
+  abbrev own : Verdict
+  own = record { rows = row_count c; bound = bound c }
+
+  -- the verdict accepts exactly the winning plans
+  pub accepts_winning : IsOk r ↔ Winning c
+  accepts_winning = (
+    (λ e. winning_from_rules c (accepted_passes (judge_all (plan_rules c)) own (ap is_ok (sym answer) ∙ e))),
+    (λ w. ap is_ok (answer ∙ ap (λ a. next_after a (Ok own)) (rules_from_winning c w))),
   )
 
   -- a refusal is the least fault, and an acceptance breaks no rule
-  pub passes_least : Judges (plan_rules c) r
-  passes_least = subst (λ a. Judges (plan_rules c) a) (sym answer) (judges_after (plan_rules c) (judge_all (plan_rules c)) x (judges 0 (plan_rules c) refl))
-
--- the verdict accepts exactly the winning plans
-pub accepts_winning : (c : Certificate) → Lawful c → (r : Result Verdict Fault) → r ≡ verdict c → Decides (is_ok r) (Winning c)
-accepts_winning c lawful r answer = passes_winning (record { rows = row_count c; bound = bound c }) c r answer
+  pub refuses_least : Judges (plan_rules c) r
+  refuses_least = subst (λ a. Judges (plan_rules c) a) (sym answer) (judges_after (plan_rules c) (judge_all (plan_rules c)) own (judges 0 (plan_rules c) refl))

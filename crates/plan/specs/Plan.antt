@@ -1,5 +1,5 @@
 -- The check: rules 21 to 26 in their order, and the verdict.
-use Rattle.std.specs.Prelude.{ℕ, ◌+◌, ◌-◌, ◌*◌, ◌/◌, Bool, cond, not, ◌&&◌, List, [], ◌∷◌, is_some, Ok, Result, ◌==◌, nat_lt}
+use Rattle.std.specs.Prelude.{ℕ, ◌+◌, ◌-◌, ◌*◌, ◌/◌, Bool, cond, not, ◌&&◌, List, [], ◌∷◌, ◌++◌, is_some, Ok, Result, decimal, ◌==◌, nat_lt}
 use Rattle.certificate.specs.declared.fault.Fault.{Fault}
 use Rattle.certificate.specs.Rules.{Rule, whole, judge_all, next_after}
 use Rattle.certificate.specs.Certificates.{Certificate, class_count, row_count, row, size, load, count, offered, packed, find_row, total}
@@ -93,3 +93,7 @@ bound c = (c.bins * c.capacity) / smallest c
 -- the number of rows and the bound of a certificate that breaks no rule, else the least fault
 abbrev pub verdict : Certificate → Result Verdict Fault
 verdict c = next_after (judge_all (plan_rules c)) (Ok (record { rows = row_count c; bound = bound c }))
+
+-- the rows and the bound in decimal, a space (32) between them
+abbrev pub verdict_text : Verdict → List ℕ
+verdict_text v = decimal v.rows ++ (32 ∷ decimal v.bound)

@@ -1,5 +1,6 @@
 -- A winning plan: what the rows of an accepted certificate do for the side that offers.
 use Rattle.std.specs.Prelude.{◌≡◌, ℕ, ◌+◌, ◌<◌, ◌≤◌, List}
+use Rattle.plan.specs.Bound.{Forces, ForcesWithin}
 use Rattle.certificate.specs.Certificates.{Certificate, class_count, row_count, row, load, offered, Stands}
 use Rattle.positions.specs.Positions.{empty_loads, empty_counts, next_loads, next_counts, offer}
 use Rattle.plan.specs.Plan.{load_sum, placed_sum, packed_sum, packed_total, packed_due}
@@ -21,3 +22,11 @@ pub record Winning (c : Certificate) : Type 0 where
   pub shares : (i k : ℕ) → i < row_count c → k < class_count c → packed_total c i k ≡ packed_due c i k
   -- wherever the offered item keeps a bin below R, the position that follows has a row
   pub goes_on : (i j : ℕ) → i < row_count c → j < c.bins → load c i j + offer c i < c.target → Covers c (next_loads (row c i).loads j (offer c i)) (next_counts (row c i).counts (offered c i))
+
+-- the bound of a certificate is true: no algorithm keeps its m bins of capacity T below R
+abbrev pub Forced : Certificate → Type 0
+Forced c = Forces c.bins c.capacity c.target
+
+-- and at most n items show it
+abbrev pub ForcedWithin : ℕ → Certificate → Type 0
+ForcedWithin n c = ForcesWithin n c.bins c.capacity c.target

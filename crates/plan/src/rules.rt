@@ -2,41 +2,26 @@
 ghost use Rattle.std.specs.Prelude.{◌≡◌};
 ghost use Rattle.plan.specs.Plan.{starts_rule, descends_rule, accounts_rule, packs_rule, shares_rule, goes_on_rule};
 
-use crate::sums::{
-    count, load, offered, packed_of_class, size, sum_of_loads, sum_packed, sum_placed,
-};
+use crate::sums::{packed_of_class, sum_of_loads, sum_packed, sum_placed};
+use certificate::reason::Reason;
 use certificate::rule::{RuleOf, Scope};
 use certificate::store::Store;
+use positions::numbers::{count_of, load_of, offer_of, offered_by};
 use positions::steps::{empty_position, next_position};
-
-const STARTS: u8 = 21;
-
-const DESCENDS: u8 = 22;
-
-const ACCOUNTS: u8 = 23;
-
-const PACKS: u8 = 24;
-
-const SHARES: u8 = 25;
-
-const GOES_ON: u8 = 26;
 
 // The empty position has a row.
 #[derive(Clone, Copy)]
 pub struct Starts;
 
 impl<S: Store> RuleOf<S> for Starts {
-    ghost rule = { λ s. starts_rule (S.Store.meaning s) };
+    ghost rule = { λ _ s. starts_rule (S.Store.meaning s) };
 
     fn scope(&self, _store: &S) -> Scope {
-        Scope::new(STARTS, 1, 1)
+        Scope::of(Reason::NoStart, 1, 1)
     }
 
     fn is_broken(&self, store: &S, _row: usize, _place: usize) -> bool {
-        let position = empty_position(store);
-        store
-            .find(position.loads.as_slice(), position.counts.as_slice())
-            .is_none()
+        empty_position(store).row_in(store).is_none()
     }
 }
 
@@ -45,14 +30,14 @@ impl<S: Store> RuleOf<S> for Starts {
 pub struct Descends;
 
 impl<S: Store> RuleOf<S> for Descends {
-    ghost rule = { λ s. descends_rule (S.Store.meaning s) };
+    ghost rule = { λ _ s. descends_rule (S.Store.meaning s) };
 
     fn scope(&self, store: &S) -> Scope {
-        Scope::new(DESCENDS, store.rows(), store.bins())
+        Scope::of(Reason::LoadRises, store.rows(), store.bins())
     }
 
     fn is_broken(&self, store: &S, row: usize, bin: usize) -> bool {
-        bin > 0 && load(store, row, bin) > load(store, row, bin - 1)
+        bin > 0 && load_of(store, row, bin) > load_of(store, row, bin - 1)
     }
 }
 
@@ -61,10 +46,10 @@ impl<S: Store> RuleOf<S> for Descends {
 pub struct Accounts;
 
 impl<S: Store> RuleOf<S> for Accounts {
-    ghost rule = { λ s. accounts_rule (S.Store.meaning s) };
+    ghost rule = { λ _ s. accounts_rule (S.Store.meaning s) };
 
     fn scope(&self, store: &S) -> Scope {
-        Scope::new(ACCOUNTS, store.rows(), 1)
+        Scope::of(Reason::SumsDiffer, store.rows(), 1)
     }
 
     fn is_broken(&self, store: &S, row: usize, _place: usize) -> bool {
@@ -77,14 +62,14 @@ impl<S: Store> RuleOf<S> for Accounts {
 pub struct Packs;
 
 impl<S: Store> RuleOf<S> for Packs {
-    ghost rule = { λ s. packs_rule (S.Store.meaning s) };
+    ghost rule = { λ _ s. packs_rule (S.Store.meaning s) };
 
     fn scope(&self, store: &S) -> Scope {
-        Scope::new(PACKS, store.rows(), store.bins())
+        Scope::of(Reason::Overfull, store.rows(), store.bins())
     }
 
     fn is_broken(&self, store: &S, row: usize, bin: usize) -> bool {
-        sum_packed(store, row, bin) > store.capacity() as usize
+        sum_packed(store, row, bin) > u64::from(store.capacity())
     }
 }
 
@@ -93,15 +78,15 @@ impl<S: Store> RuleOf<S> for Packs {
 pub struct Shares;
 
 impl<S: Store> RuleOf<S> for Shares {
-    ghost rule = { λ s. shares_rule (S.Store.meaning s) };
+    ghost rule = { λ _ s. shares_rule (S.Store.meaning s) };
 
     fn scope(&self, store: &S) -> Scope {
-        Scope::new(SHARES, store.rows(), store.classes())
+        Scope::of(Reason::Misshared, store.rows(), store.classes())
     }
 
     fn is_broken(&self, store: &S, row: usize, class: usize) -> bool {
-        let one = if class == offered(store, row) { 1 } else { 0 };
-        packed_of_class(store, row, class) != count(store, row, class) + one
+        let offered = u64::from(class == offered_by(store, row));
+        packed_of_class(store, row, class) != u64::from(count_of(store, row, class)) + offered
     }
 }
 
@@ -110,22 +95,15 @@ impl<S: Store> RuleOf<S> for Shares {
 pub struct GoesOn;
 
 impl<S: Store> RuleOf<S> for GoesOn {
-    ghost rule = { λ s. goes_on_rule (S.Store.meaning s) };
+    ghost rule = { λ _ s. goes_on_rule (S.Store.meaning s) };
 
     fn scope(&self, store: &S) -> Scope {
-        Scope::new(GOES_ON, store.rows(), store.bins())
+        Scope::of(Reason::Stranded, store.rows(), store.bins())
     }
 
     fn is_broken(&self, store: &S, row: usize, bin: usize) -> bool {
-        let raised = load(store, row, bin) + size(store, offered(store, row));
-        if raised >= store.target() as usize {
-            return false;
-        }
-        match next_position(store, row, bin) {
-            Some(next) => store
-                .find(next.loads.as_slice(), next.counts.as_slice())
-                .is_none(),
-            None => false,
-        }
+        let raised = u32::from(load_of(store, row, bin)) + u32::from(offer_of(store, row));
+        raised < u32::from(store.target())
+            && next_position(store, row, bin).is_some_and(|next| next.row_in(store).is_none())
     }
 }

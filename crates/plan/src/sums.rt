@@ -1,84 +1,55 @@
-// The sums that the rules compare, and the numbers that they add, 0 where a row, bin or class is missing.
-ghost use Rattle.std.specs.Prelude.{◌≡◌, ℕ, ◌+◌, ◌*◌, ◌<◌, ◌≤◌};
-ghost use Rattle.certificate.specs.Certificates.{size as type_size, load as load_of, count as count_of, offered as offered_of, packed as packed_of};
+// The sums that the rules compare.
+ghost use Rattle.std.specs.Prelude.{◌≡◌, ℕ, ◌<◌, ◌≤◌};
+ghost use Rattle.certificate.specs.Certificates.{total};
 ghost use Rattle.plan.specs.Plan.{load_sum, placed_sum, packed_sum, packed_total};
 
 use certificate::store::Store;
+use positions::numbers::{count_of, load_of, packed_of, size_of};
 
-pub fn size<S: Store>(store: &S, class: usize) -> usize
-    ensures value { result ≡ type_size (S.Store.meaning store.now) class }
-    ensures small { result < 65536 }
+// The sum of so many numbers of 32 bits, each told by its place.
+fn sum_of<F: Fn(usize) -> u32>(count: usize, number: F) -> u64
+    requires callable { F.IsAlwaysCallable number }
+    requires few { count ≤ 65535 }
+    ensures { (f : ℕ → ℕ) → ((k x : ℕ) → k < count → F.post number k x → x ≡ f k) → result ≡ total f count }
 {
-    store.size(class).unwrap_or(0) as usize
-}
-
-pub fn load<S: Store>(store: &S, row: usize, bin: usize) -> usize
-    ensures value { result ≡ load_of (S.Store.meaning store.now) row bin }
-    ensures small { result < 65536 }
-{
-    store.load(row, bin).unwrap_or(0) as usize
-}
-
-pub fn count<S: Store>(store: &S, row: usize, class: usize) -> usize
-    ensures value { result ≡ count_of (S.Store.meaning store.now) row class }
-    ensures small { result < 65536 }
-{
-    store.count(row, class).unwrap_or(0) as usize
-}
-
-pub fn offered<S: Store>(store: &S, row: usize) -> usize
-    ensures { result ≡ offered_of (S.Store.meaning store.now) row }
-{
-    store.offered(row).unwrap_or(0)
-}
-
-pub fn packed<S: Store>(store: &S, row: usize, bin: usize, class: usize) -> usize
-    ensures value { result ≡ packed_of (S.Store.meaning store.now) row bin class }
-    ensures small { result < 65536 }
-{
-    store.packed(row, bin, class).unwrap_or(0) as usize
+    let mut sum = 0;
+    for place in 0..count {
+        sum += u64::from(number(place));
+    }
+    sum
 }
 
 // The sum of a row's loads.
-pub fn sum_of_loads<S: Store>(store: &S, row: usize) -> usize
+pub fn sum_of_loads<S: Store>(store: &S, row: usize) -> u64
     ensures { result ≡ load_sum (S.Store.meaning store.now) row }
 {
-    let mut sum = 0;
-    for bin in 0..store.bins() {
-        sum += load(store, row, bin);
-    }
-    sum
+    sum_of(store.bins(), |bin| u32::from(load_of(store, row, bin)))
 }
 
 // The sum of a row's counts times their sizes.
-pub fn sum_placed<S: Store>(store: &S, row: usize) -> usize
+pub fn sum_placed<S: Store>(store: &S, row: usize) -> u64
     ensures { result ≡ placed_sum (S.Store.meaning store.now) row }
 {
-    let mut sum = 0;
-    for class in 0..store.classes() {
-        sum += count(store, row, class) * size(store, class);
-    }
-    sum
+    sum_of(store.classes(), |class| {
+        u32::from(count_of(store, row, class)) * u32::from(size_of(store, class))
+    })
 }
 
 // What a packing bin of a row's witness holds.
-pub fn sum_packed<S: Store>(store: &S, row: usize, bin: usize) -> usize
+pub fn sum_packed<S: Store>(store: &S, row: usize, bin: usize) -> u64
     ensures { result ≡ packed_sum (S.Store.meaning store.now) row bin }
 {
-    let mut sum = 0;
-    for class in 0..store.classes() {
-        sum += packed(store, row, bin, class) * size(store, class);
-    }
-    sum
+    sum_of(store.classes(), |class| {
+        u32::from(packed_of(store, row, bin, class)) * u32::from(size_of(store, class))
+    })
 }
 
 // How many items of a class a row's witness packs.
-pub fn packed_of_class<S: Store>(store: &S, row: usize, class: usize) -> usize
-    ensures value { result ≡ packed_total (S.Store.meaning store.now) row class }
+pub fn packed_of_class<S: Store>(store: &S, row: usize, class: usize) -> u64
+    ensures { result ≡ packed_total (S.Store.meaning store.now) row class }
 {
-    let mut sum = 0;
-    for bin in 0..store.bins() {
-        sum += packed(store, row, bin, class);
-    }
-    sum
+    sum_of(
+        store.bins(),
+        |bin| u32::from(packed_of(store, row, bin, class)),
+    )
 }

@@ -25,8 +25,7 @@ fn take_turn<S: Store, P: Player>(
     let (waiting, mut item) = ready.offer();
     match settle(waiting, &mut item, store, player, record) {
         Ok(next) => Ok(next),
-        Err(declined) => {
-            let Declined { fault, waiting } = declined;
+        Err(Declined { fault, waiting }) => {
             let _ = waiting.forfeit(&mut item);
             Err(fault)
         }

@@ -1,9 +1,14 @@
 -- The fullest bin that stays below a target: of the bins that would, none is fuller, and those before it are less full.
-use Rattle.std.proofs.Common.{◌≡◌, ℕ, zero, suc, ◌+◌, ◌<◌, ◌≤◌, Bool, true, false, cond, ◌&&◌, ltb, List, length, get_or, IfSome, Some, None, Option, sym, refl, ap, ◌∙◌, subst, inl, inr, ⊎_elim, add-one, arith, MatchOption}
+use Rattle.std.proofs.Common.{◌≡◌, ℕ, zero, suc, ◌+◌, ◌<◌, ◌≤◌, Bool, true, false, cond, ◌&&◌, ltb, List, length, get_or, filter, Some, None, Option, sym, refl, ap, ◌∙◌, subst, inl, inr, ⊎_elim, arith, MatchOption}
+use Rattle.std.specs.declared.cmp.Reverse.{Reverse}
+use Rattle.std.specs.List.{fold, enumerate_from}
+use Rattle.std.specs.Option.{option_map}
+use Rattle.std.specs.Ordering.{nat_cmp}
 use Rattle.std.proofs.lemmas.Bool.{cases_eq, cond-true, lt-ltb, ltb-true, ltb-false, and_from, and_parts, and_cases, both_ways}
 use Rattle.players.specs.Choosing.{below, fuller, fullest_of, fullest_below, least_full, best_fit, or_least_full}
 use Rattle.players.specs.Fitting.{FullestBelow, BestFits}
 use Rattle.players.proofs.LeastLoads.{least_full_says}
+use Rattle.players.proofs.Picking.{lesser, lesser_number, cond_of, fold_filter, at, fold_bins}
 
 module _ (r : ℕ) (loads : List ℕ) (size : ℕ) where
   -- none of the first n bins would stay below r
@@ -62,20 +67,6 @@ module _ (r : ℕ) (loads : List ℕ) (size : ℕ) where
   fullest_of_says zero = λ k l p. absurd (omega arith)
   fullest_of_says (suc n) = step n (fullest_of r loads size n) (below r loads size n && fuller loads (fullest_of r loads size n) n) refl (fullest_of_says n)
 
-  -- the best of the first n bins is one of them
-  pub best_there : (n m : ℕ) (o : Option ℕ) → n ≤ m → o ≡ fullest_of r loads size n → IfSome o (λ b. b < m)
-  best_there n m o l e = one_of o (subst (λ x. MatchOption x (NoneUpto n) (FullestUpto n)) (sym e) (fullest_of_says n))
-    where
-      one_of : (x : Option ℕ) → MatchOption x (NoneUpto n) (FullestUpto n) → IfSome x (λ b. b < m)
-      one_of None h = tt
-      one_of (Some b) h = omega (arith, h.0)
-
-  -- one more bin is taken where it is better than the best so far
-  pub fullest_more : (n : ℕ) (best : Option ℕ) (t : Bool) → best ≡ fullest_of r loads size n → t ≡ (below r loads size n && fuller loads best n) → cond t (Some n) best ≡ fullest_of r loads size (n + 1)
-  fullest_more n best t e same =
-      let P : Option ℕ → Type 0 = λ o. t ≡ (below r loads size n && fuller loads o n) in
-      rw add-one (ap (cond t (Some n)) e ∙ ap (λ b. cond b (Some n) (fullest_of r loads size n)) (subst P e same))
-
   else_least : (o : Option ℕ) → MatchOption o (NoneUpto (length loads)) (FullestUpto (length loads)) → 0 < length loads → BestFits r loads size (or_least_full o loads)
   else_least None h some = inr (h, least_full_says loads some)
   else_least (Some b) h some =
@@ -84,3 +75,33 @@ module _ (r : ℕ) (loads : List ℕ) (size : ℕ) where
   -- best fit's bin is the fullest that stays below r, or the least full where none does
   pub best_fit_says : 0 < length loads → BestFits r loads size (best_fit r loads size)
   best_fit_says = else_least (fullest_below r loads size) (fullest_of_says (length loads))
+
+  -- ---- the chain that picks it
+
+  -- the bin whose load is the greater, the first on a tie
+  abbrev greater : Option (ℕ × ℕ) → ℕ × ℕ → Option (ℕ × ℕ)
+  greater = lesser (λ (x y : Reverse ℕ). nat_cmp y.0 x.0) (λ p. record { 0 = p.1 })
+
+  picked_more : (o : Option ℕ) (t : Bool) (n : ℕ) → option_map (at loads) (cond (t && fuller loads o n) (Some n) o) ≡ cond t (greater (option_map (at loads) o) (at loads n)) (option_map (at loads) o)
+  picked_more None true n = refl
+  picked_more None false n = refl
+  picked_more (Some b) false n = refl
+  picked_more (Some b) true n =
+      let t = fuller loads (Some b) n in
+      cond_of (option_map (at loads)) t (Some n) (Some b)
+      ∙ (sym (cond_of Some t (at loads n) (at loads b)) ∙ ap Some (sym (lesser_number (get_or loads n 0) (get_or loads b 0) (at loads b) (at loads n))))
+
+  -- of the bins that stay below r with their loads, the first of the fullest is the fullest bin that does
+  pub fullest_picked : {A : Type 0} (v : A → ℕ × ℕ) (o : Option A) (bin : Option ℕ) → MatchOption o (bin ≡ None) (λ x. bin ≡ Some (v x).0)
+      → option_map v o ≡ fold greater None (filter (λ p. ltb (p.1 + size) r) (enumerate_from 0 loads)) → bin ≡ fullest_below r loads size
+  fullest_picked v o bin m e =
+      told o (fullest_below r loads size) m
+      (e
+      ∙ (fold_filter greater (λ p. ltb (p.1 + size) r) None (enumerate_from 0 loads)
+      ∙ fold_bins loads (λ a p. cond (ltb (p.1 + size) r) (greater a p) a) (λ n. option_map (at loads) (fullest_of r loads size n)) (λ n. picked_more (fullest_of r loads size n) (below r loads size n) n)))
+    where
+      told : (a : Option _) (f : Option ℕ) → MatchOption a (bin ≡ None) (λ x. bin ≡ Some (v x).0) → option_map v a ≡ option_map (at loads) f → bin ≡ f
+      told None None h p = h
+      told None (Some b) h p = (cc)
+      told (Some x) None h p = (cc)
+      told (Some x) (Some b) h p = (cc)

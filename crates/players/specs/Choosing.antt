@@ -22,6 +22,10 @@ abbrev pub or_least_full : Option ℕ → List ℕ → ℕ
 or_least_full None loads = least_full loads
 or_least_full (Some b) loads = cond (nat_lt b (length loads)) b (least_full loads)
 
+-- the bin of a rule: the one that it prefers at these loads for this size, if there is such a bin, else the least full one
+abbrev pub preferring : (List ℕ → ℕ → Option ℕ) → List ℕ → ℕ → ℕ
+preferring prefers loads size = or_least_full (prefers loads size) loads
+
 -- ---- best fit
 
 -- whether bin b would stay below r with an item of this size
@@ -44,7 +48,7 @@ fullest_below r loads size = fullest_of r loads size (length loads)
 
 -- best fit: the fullest bin that would stay below r, else the least full bin
 abbrev pub best_fit : ℕ → List ℕ → ℕ → ℕ
-best_fit r loads size = or_least_full (fullest_below r loads size) loads
+best_fit r = preferring (fullest_below r)
 
 -- ---- threshold
 
@@ -58,4 +62,4 @@ lowest_within limit loads size = first (within limit loads size) (length loads)
 
 -- threshold: the lowest bin that would stay within the limit, else the least full bin
 abbrev pub threshold : ℕ → List ℕ → ℕ → ℕ
-threshold limit loads size = or_least_full (lowest_within limit loads size) loads
+threshold limit = preferring (lowest_within limit)

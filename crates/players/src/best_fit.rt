@@ -1,19 +1,18 @@
 // Best fit: the fullest bin that stays below a target.
-ghost use Rattle.std.specs.Prelude.{◌≡◌, ◌+◌, ◌<◌, true, ◌&&◌, length, IfSome, IfOk, nat_lt};
-ghost use Rattle.players.specs.Placing.{answered, by_choice, Placed, PlacedBy, MadeEmpty};
-ghost use Rattle.players.specs.Choosing.{below, fuller, fullest_below, best_fit};
+ghost use Rattle.std.specs.Prelude.{◌≡◌, ◌+◌, IfOk, nat_lt};
+ghost use Rattle.players.specs.Placing.{MadeEmpty};
+ghost use Rattle.players.specs.Choosing.{fullest_below};
 ghost use Rattle.players.specs.Fitting.{BestFits};
 ghost use Rattle.players.specs.Held.{held};
-ghost use Rattle.std.proofs.Common.{rules};
 
 use crate::bins::Bins;
-use crate::player::Player;
+use crate::by_rule::{ByRule, PlacingRule};
 use certificate::fault::Fault;
+use std::cmp::Reverse;
 
 // Takes the fullest bin that stays below the target with the item, else the least full bin.
 #[derive(Drop)]
 pub struct BestFit {
-    bins: Bins,
     target: u16,
 }
 
@@ -24,83 +23,35 @@ fn stays_below(load: u16, size: u16, target: u16) -> bool
     u32::from(load) + u32::from(size) < u32::from(target)
 }
 
-// Whether a bin is fuller than the best so far, if there is one.
-fn is_fuller(loads: &[u16], best: Option<usize>, bin: usize) -> bool
-    requires { (IfSome best (λ b. b < length loads.now)) × (bin < length loads.now) }
-    ensures { result ≡ fuller loads.now best bin }
-{
-    match best {
-        None => true,
-        Some(best) => loads[best] < loads[bin],
-    }
-}
-
-// Whether a bin stays below the target with the item, and is fuller than the best so far.
-fn is_better(loads: &[u16], size: u16, target: u16, best: Option<usize>, bin: usize) -> bool
-    requires { (IfSome best (λ b. b < length loads.now)) × (bin < length loads.now) }
-    ensures { result ≡ (below target loads.now size bin && fuller loads.now best bin) }
-{
-    stays_below(loads[bin], size, target) && is_fuller(loads, best, bin)
-}
-
 // The fullest bin that stays below the target with the item, the lowest one on a tie.
 pub fn fullest_below(loads: &[u16], size: u16, target: u16) -> Option<usize>
     ensures { result ≡ fullest_below target loads.now size }
 {
-    let mut best = None;
-    for bin in 0..loads.len() {
-        if is_better(loads, size, target, best, bin) {
-            best = Some(bin);
-        }
-    }
-    best
+    loads
+        .iter()
+        .enumerate()
+        .filter(|(_, load)| stays_below(**load, size, target))
+        .min_by_key(|(_, load)| Reverse(**load))
+        .map(|(bin, _)| bin)
 }
 
 impl BestFit {
-    // An empty player, refused for a number of bins that is out of range.
-    pub fn new(bins: usize, target: u16) -> Result<BestFit, Fault>
+    // An empty player that goes by best fit, refused for a number of bins that is out of range.
+    pub fn new(bins: usize, target: u16) -> Result<ByRule<BestFit>, Fault>
         ensures empty { MadeEmpty (λ p. held p.bins) bins result }
-        ensures target { IfOk result (λ p. p.target ≡ target) }
+        ensures target { IfOk result (λ p. p.rule.target ≡ target) }
     {
-        let bins = Bins::new(bins)?;
-        Ok(BestFit { bins, target })
-    }
-
-    // Places an item by the rule.
-    fn put(&mut self, size: u16) -> Result<usize, Fault>
-        ensures by { PlacedBy (best_fit self.old.target) (BestFits self.old.target) (held self.old.bins) size result (held self.new.bins) }
-        ensures kept { self.new.target ≡ self.old.target }
-    {
-        let fullest = fullest_below(self.bins.loads(), size, self.target);
-        self.bins.place(size, fullest)
+        ByRule::new(bins, BestFit { target })
     }
 }
 
-impl Player for BestFit {
-    ghost loads = { λ p. held p.bins };
+impl PlacingRule for BestFit {
+    ghost prefers = { λ r. fullest_below r.target };
 
-    ghost takes = { λ p. by_choice (best_fit p.target) };
+    ghost Fits = { λ r. BestFits r.target };
 
-    ghost sized = { Prim.search rules };
-
-    ghost light = { Prim.search rules };
-
-    fn bins(&self) -> usize {
-        self.bins.count()
-    }
-
-    fn load(&self, bin: usize) -> Option<u16> {
-        self.bins.get(bin)
-    }
-
-    fn place(&mut self, size: u16) -> Result<usize, Fault>
-        ensures placed { Placed (held self.old.bins) size result (held self.new.bins) }
-        ensures ruled { IfOk result (λ b. by_choice (best_fit self.old.target) (held self.old.bins) size b ≡ true) }
-        ensures rule_kept { by_choice (best_fit self.new.target) ≡ by_choice (best_fit self.old.target) }
-        ensures chosen { result ≡ answered (held self.old.bins) size (best_fit self.old.target (held self.old.bins) size) }
-        ensures fits { IfOk result (BestFits self.old.target (held self.old.bins) size) }
-        ensures kept { self.new.target ≡ self.old.target }
-    {
-        self.put(size)
+    #[tactic(auto, using(crate::proofs::FullestLoads::best_fit_says))]
+    fn preferred(&self, bins: &Bins, size: u16) -> Option<usize> {
+        fullest_below(bins.loads(), size, self.target)
     }
 }

@@ -1,41 +1,27 @@
 // The loads of 2 to 8 bins, as every player here holds them.
-ghost use Rattle.std.specs.Prelude.{◌≡◌, ◌<◌, ◌≤◌, length, take, sum};
+ghost use Rattle.std.specs.Prelude.{◌≡◌, ◌<◌, ◌≤◌, length, sum};
+ghost use Rattle.arrayvec.specs.ArrayVec.{array_vec_len};
 ghost use Rattle.certificate.specs.Lawful.{most_bins};
 ghost use Rattle.players.specs.Placing.{least_bins, most_total};
-ghost use Rattle.players.specs.Choosing.{less_full, least_full};
+ghost use Rattle.players.specs.Choosing.{least_full};
 ghost use Rattle.players.specs.Fitting.{LeastFull};
+
+use arrayvec::ArrayVec;
+use certificate::limits::MOST_BINS;
 
 mod methods;
 
-// The limits of a player: its bins, the size of an item, and all loads together.
-pub const LEAST_BINS: usize = 2;
-
-pub const MOST_BINS: usize = 8;
-
+// The limits of a placing: the size of an item, and all loads together. The bins are as many as a certificate can have.
 pub const MOST_SIZE: u16 = 127;
 
 pub const MOST_TOTAL: u16 = 4095;
 
-// The load of each bin; the slots past the last bin are not used.
-#[derive(Clone, Copy)]
+// The load of each bin.
+#[derive(Drop)]
 pub struct Bins {
-    slots: [u16; MOST_BINS],
-    count: usize,
-    ghost sized: { (least_bins ≤ count) × (count ≤ most_bins) },
-    ghost slotted: { length (take count slots) ≡ count },
-    ghost light: { sum (take count slots) ≤ most_total },
-}
-
-// The less full of two bins, the first one on a tie.
-fn less_full(loads: &[u16], first: usize, second: usize) -> usize
-    requires { (first < length loads.now) × (second < length loads.now) }
-    ensures { result ≡ less_full loads.now first second }
-{
-    if loads[second] < loads[first] {
-        second
-    } else {
-        first
-    }
+    loads: ArrayVec<u16, MOST_BINS>,
+    ghost sized: { (least_bins ≤ array_vec_len loads) × (array_vec_len loads ≤ most_bins) },
+    ghost light: { sum loads.items ≤ most_total },
 }
 
 // The least full bin, the lowest one on a tie.
@@ -43,9 +29,6 @@ pub fn least_full(loads: &[u16]) -> usize
     ensures answer { result ≡ least_full loads.now }
     ensures least { 0 < length loads.now → LeastFull loads.now result }
 {
-    let mut least = 0;
-    for bin in 0..loads.len() {
-        least = less_full(loads, least, bin);
-    }
-    least
+    let least = loads.iter().enumerate().min_by_key(|(_, load)| **load);
+    least.map_or(0, |(bin, _)| bin)
 }

@@ -36,8 +36,5 @@ pub trait Player {
 pub fn borne<P: Player>(player: &P, bin: usize) -> u16
     ensures { result ≡ slice_index (P.Player.loads player.now) bin }
 {
-    match player.load(bin) {
-        Some(load) => load,
-        None => 0,
-    }
+    player.load(bin).unwrap_or(0)
 }

@@ -6,6 +6,7 @@ mod tests {
     use books::book::Book;
     use certificate::fault::Fault;
     use players::best_fit::BestFit;
+    use players::by_rule::ByRule;
     use players::player::Player;
     use players::threshold::Threshold;
     use std::process::Abort;
@@ -21,7 +22,7 @@ mod tests {
     }
 
     // What opening a book gives, a refusal told by its fault alone.
-    fn open_book(book: Vec<u8>) -> Result<Book, Fault> {
+    fn open_book(book: Vec<u8>) -> Result<ByRule<Book>, Fault> {
         Ok(Book::open(book)?)
     }
 
@@ -143,7 +144,7 @@ mod tests {
         for (bytes, number, row) in cases {
             let refused = Book::open(bytes.to_vec(rt.alloc())?).err().ok_or("opened")?;
             assert_eq!(rt; refused.fault, fault(number, row));
-            assert!(rt; refused.book.as_slice() == bytes);
+            assert!(rt; refused.bytes.as_slice() == bytes);
         }
         Ok(())
     }

@@ -1,9 +1,10 @@
 -- Reading a row number by number, from a store's answers.
-use Rattle.std.proofs.Common.{◌≡◌, ℕ, ◌+◌, ◌<◌, ◌≤◌, Bool, true, false, ◌&&◌, ltb, ◌⊎◌, List, [], ◌∷◌, ◌++◌, length, get_or, take, Some, None, unwrap_or, sym, refl, ap, ◌∙◌, subst, inl, inr, arith}
-use Rattle.std.proofs.lemmas.Bool.{ltb-true, ltb-false, lt-ltb, and_parts, and_from, and_cases, cases_lt, both_ways}
+use Rattle.std.proofs.Common.{◌≡◌, ℕ, zero, suc, add-one, ◌<◌, ◌≤◌, Bool, true, false, ◌&&◌, ltb, ◌⊎◌, List, [], ◌++◌, length, get_or, take, Some, None, Option, option_to_list, unwrap_or, sym, refl, ap, ◌∙◌, subst, inl, inr, arith}
+use Rattle.std.proofs.lemmas.Bool.{ltb-true, ltb-false, lt-ltb, le-ltb, and_parts, and_from, and_cases, cases_lt, both_ways}
 use Rattle.std.proofs.lemmas.List.{get_or_past, take_more, take_all}
 use Rattle.certificate.specs.Certificates.{Certificate, Row, no_row, given, class_count, row_count, row, size, load, count, offered, packed, size_at, load_at, count_at, offered_at, packed_at}
 use Rattle.certificate.specs.Lawful.{Lawful}
+use Rattle.positions.specs.Positions.{gathered}
 
 -- what is given is there
 pub given_some : (b : Bool) (y x : ℕ) → Some x ≡ given b y → (b ≡ true) × (x ≡ y)
@@ -19,32 +20,30 @@ given_none false y e = refl
 pub missing_row : (c : Certificate) (i : ℕ) → row_count c ≤ i → row c i ≡ no_row
 missing_row c i l = get_or_past c.rows i no_row l
 
-take_none : (n : ℕ) (xs : List ℕ) → xs ≡ [] → take n xs ≡ xs
-take_none n xs e = take_all n xs (omega (arith, ap length e))
-
 module _ (c : Certificate) (i n : ℕ) (xs : List ℕ) (full : i < row_count c → length xs ≡ n) (none : row_count c ≤ i → xs ≡ []) where
-  -- one number more
-  pub read_more : (j x : ℕ) (so_far : List ℕ) → Some x ≡ given (ltb i (row_count c) && ltb j n) (get_or xs j 0) → so_far ≡ take j xs → so_far ++ x ∷ [] ≡ take (j + 1) xs
-  read_more j x so_far e h =
-      let p = given_some (ltb i (row_count c) && ltb j n) (get_or xs j 0) x e in
-      let q = and_parts (ltb i (row_count c)) (ltb j n) p.0 in
-      let inside : j < length xs = subst (λ m. j < m) (sym (full (ltb-true i (row_count c) q.0))) (ltb-true j n q.1) in
-      ap (λ ys. ys ++ x ∷ []) h ∙ (ap (λ y. take j xs ++ y ∷ []) p.1 ∙ sym (take_more xs j 0 inside))
+  -- what is told of place j of a list of n numbers that row i has
+  abbrev told : ℕ → Option ℕ
+  told j = given (ltb i (row_count c) && ltb j n) (get_or xs j 0)
 
-  -- an answer of none: the row is missing, and nothing was read
-  pub read_none : (j : ℕ) (so_far : List ℕ) → j < n → None ≡ given (ltb i (row_count c) && ltb j n) (get_or xs j 0) → so_far ≡ take j xs → so_far ≡ xs
-  read_none j so_far l e h =
-      elim (cases_lt i (row_count c)) [
-        | inl b ↦ absurd (both_ways (ltb i (row_count c) && ltb j n) (given_none (ltb i (row_count c) && ltb j n) (get_or xs j 0) e) (and_from (ltb i (row_count c)) (ltb j n) (lt-ltb i (row_count c) b) (lt-ltb j n l)))
-        | inr b ↦ h ∙ take_none j xs (none b)
-      ]
+  there : i < row_count c → (j : ℕ) → j ≤ n → gathered told j ≡ take j xs
+  there l zero h = refl
+  there l (suc j) h =
+      let inside : j < length xs = omega (arith, full l) in
+      let one : told j ≡ Some (get_or xs j 0) = ap (λ b. given b (get_or xs j 0)) (and_from (ltb i (row_count c)) (ltb j n) (lt-ltb i (row_count c) l) (lt-ltb j n (omega arith))) in
+      (λ t. there l j (omega arith) t ++ option_to_list (one t)) ∙ (sym (take_more xs j 0 inside) ∙ ap (λ m. take m xs) (add-one j))
 
-  -- all numbers were read
-  pub read_all : (j : ℕ) (so_far : List ℕ) → n ≤ j → so_far ≡ take j xs → so_far ≡ xs
-  read_all j so_far l h =
+  missing : row_count c ≤ i → (j : ℕ) → gathered told j ≡ []
+  missing l zero = refl
+  missing l (suc j) =
+      let nothing : told j ≡ None = ap (λ b. given (b && ltb j n) (get_or xs j 0)) (le-ltb i (row_count c) l) in
+      λ t. missing l j t ++ option_to_list (nothing t)
+
+  -- all that is told of the row's numbers is all of them
+  pub gathered_row : gathered told n ≡ xs
+  gathered_row =
       elim (cases_lt i (row_count c)) [
-        | inl b ↦ h ∙ take_all j xs (omega (arith, full b))
-        | inr b ↦ h ∙ take_none j xs (none b)
+        | inl l ↦ there l n (omega arith) ∙ take_all n xs (omega (arith, full l))
+        | inr l ↦ missing l n ∙ sym (none l)
       ]
 
 -- the loads and the counts of a missing row

@@ -1,5 +1,5 @@
 -- The empty position, and the position that follows when the offered item is placed.
-use Rattle.std.specs.Prelude.{ℕ, zero, suc, ◌+◌, ◌<◌, ◌≤◌, cond, List, [], ◌∷◌, length, replicate, nat_lt, slice_index, slice_set}
+use Rattle.std.specs.Prelude.{ℕ, zero, suc, ◌+◌, cond, List, [], ◌∷◌, ◌++◌, Option, option_to_list, replicate, nat_lt, slice_index, slice_set}
 use Rattle.certificate.specs.Certificates.{Certificate, class_count, size, offered}
 
 -- all loads and counts are 0
@@ -32,6 +32,7 @@ next_counts counts k = slice_set counts k (slice_index counts k + 1)
 abbrev pub offer : Certificate → ℕ → ℕ
 offer c i = size c (offered c i)
 
--- p is the place of the first number below x, or the length where there is none
-abbrev pub PlaceOf : ℕ → List ℕ → ℕ → Type 0
-PlaceOf x xs p = (p ≤ length xs) × ((k : ℕ) → k < p → x ≤ slice_index xs k) × (p < length xs → slice_index xs p < x)
+-- what f tells of the places below n, without those that it tells nothing of
+abbrev pub gathered : (ℕ → Option ℕ) → ℕ → List ℕ
+gathered f zero = []
+gathered f (suc n) = gathered f n ++ option_to_list (f n)

@@ -1,93 +1,109 @@
 // Positions on their way through a check: the empty one, that of a row, and the one that follows a row.
-ghost use Rattle.std.specs.Prelude.{◌≡◌, ℕ, ◌+◌, ◌<◌, ◌≤◌, MatchOption};
-ghost use Rattle.certificate.specs.Certificates.{row_count, row as row_at, offered as offered_of};
-ghost use Rattle.positions.specs.Positions.{empty_loads, empty_counts, next_loads, next_counts, offer};
-ghost use Rattle.positions.specs.Steps.{held, Following};
+ghost use Rattle.std.specs.Prelude.{◌≡◌, ℕ, ◌<◌, ◌≤◌, length, nat_le, Option, replicate, slice_index, take_while};
+ghost use Rattle.certificate.specs.Certificates.{find_row, row as row_at};
+ghost use Rattle.positions.specs.Positions.{empty_loads, empty_counts, next_counts, gathered};
+ghost use Rattle.positions.specs.Steps.{Following};
 
-use crate::Numbers;
+use crate::numbers::size_of;
+use arrayvec::ArrayVec;
+use certificate::limits::{MOST_BINS, MOST_CLASSES};
 use certificate::store::Store;
 
-#[derive(Clone, Copy)]
+#[derive(Clone, Drop)]
 pub struct Position {
-    pub loads: Numbers,
-    pub counts: Numbers,
+    pub loads: ArrayVec<u32, MOST_BINS>,
+    pub counts: ArrayVec<u32, MOST_CLASSES>,
+}
+
+impl Position {
+    // The row of a store that has the position; none where no row has it.
+    pub fn row_in<S: Store>(&self, store: &S) -> Option<usize>
+        ensures { result ≡ find_row (S.Store.meaning store.now) self.now.loads.items self.now.counts.items }
+    {
+        store.find(self.loads.as_slice(), self.counts.as_slice())
+    }
+}
+
+// The numbers that are told of the places below `count`, without those that are missing.
+fn gathered<F: Fn(usize) -> Option<u16>, const MOST: usize>(
+    count: usize,
+    number: F,
+) -> ArrayVec<u32, MOST>
+    requires callable { F.IsAlwaysCallable number }
+    requires room { count ≤ MOST }
+    ensures { (f : ℕ → Option ℕ) → ((k : ℕ) (r : Option ℕ) → k < count → F.post number k r → r ≡ f k) → result.items ≡ gathered f count }
+{
+    let mut numbers = ArrayVec::new();
+    for place in 0..count {
+        if let Some(n) = number(place) {
+            numbers.push(u32::from(n));
+        }
+    }
+    numbers
 }
 
 // The loads of a row, none of a missing row.
-pub fn loads_of<S: Store>(store: &S, row: usize) -> Numbers
-    ensures { held result ≡ (row_at (S.Store.meaning store.now) row).loads }
+pub fn loads_of<S: Store>(store: &S, row: usize) -> ArrayVec<u32, MOST_BINS>
+    ensures { result.items ≡ (row_at (S.Store.meaning store.now) row).loads }
 {
-    let mut loads = Numbers::new();
-    for bin in 0..store.bins() {
-        let Some(load) = store.load(row, bin) else {
-            return loads;
-        };
-        loads.push(load as u32);
-    }
-    loads
+    gathered(store.bins(), |bin| store.load(row, bin))
 }
 
 // The counts of a row, none of a missing row.
-pub fn counts_of<S: Store>(store: &S, row: usize) -> Numbers
-    ensures { held result ≡ (row_at (S.Store.meaning store.now) row).counts }
+pub fn counts_of<S: Store>(store: &S, row: usize) -> ArrayVec<u32, MOST_CLASSES>
+    ensures { result.items ≡ (row_at (S.Store.meaning store.now) row).counts }
 {
-    let mut counts = Numbers::new();
-    for class in 0..store.classes() {
-        let Some(count) = store.count(row, class) else {
-            return counts;
-        };
-        counts.push(count as u32);
-    }
-    counts
+    gathered(store.classes(), |class| store.count(row, class))
+}
+
+// So many zeros.
+fn zeros<const MOST: usize>(count: usize) -> ArrayVec<u32, MOST>
+    requires { count ≤ MOST }
+    ensures { result.items ≡ replicate count 0 }
+{
+    let mut numbers = ArrayVec::from([0; MOST]);
+    numbers.truncate(count);
+    numbers
 }
 
 // The position in which all bins are empty and nothing is placed.
 pub fn empty_position<S: Store>(store: &S) -> Position
-    ensures loads { held result.loads ≡ empty_loads (S.Store.meaning store.now) }
-    ensures counts { held result.counts ≡ empty_counts (S.Store.meaning store.now) }
+    ensures loads { result.loads.items ≡ empty_loads (S.Store.meaning store.now) }
+    ensures counts { result.counts.items ≡ empty_counts (S.Store.meaning store.now) }
 {
     Position {
-        loads: Numbers::zeros(store.bins()),
-        counts: Numbers::zeros(store.classes()),
+        loads: zeros(store.bins()),
+        counts: zeros(store.classes()),
     }
 }
 
-// The loads that follow a row when its offer goes into a bin; none of a missing row or bin.
-fn next_loads<S: Store>(store: &S, row: usize, bin: usize) -> Option<Numbers>
-    ensures { MatchOption result ((row < row_count (S.Store.meaning store.now)) × (bin < (S.Store.meaning store.now).bins) → ⊥) (λ xs. (row < row_count (S.Store.meaning store.now)) × (bin < (S.Store.meaning store.now).bins) × (held xs ≡ next_loads (row_at (S.Store.meaning store.now) row).loads bin (offer (S.Store.meaning store.now) row))) }
+// How many loads stand before the first that is smaller.
+fn place_of(loads: &[u32], load: u32) -> usize
+    ensures { result ≡ length (take_while (λ other. nat_le load other) loads.now) }
 {
-    let Some(class) = store.offered(row) else {
-        return None;
-    };
-    let Some(load) = store.load(row, bin) else {
-        return None;
-    };
-    let size = store.size(class).unwrap_or(0);
-    let others = loads_of(store, row).all_but(bin);
-    Some(others.with(load as u32 + size as u32))
+    loads.iter().take_while(|other| **other >= load).count()
 }
 
-// The counts that follow a row when its offer is placed; none of a missing row.
-fn next_counts<S: Store>(store: &S, row: usize) -> Option<Numbers>
-    ensures { MatchOption result (row < row_count (S.Store.meaning store.now) → ⊥) (λ xs. held xs ≡ next_counts (row_at (S.Store.meaning store.now) row).counts (offered_of (S.Store.meaning store.now) row)) }
+// One more of a class.
+fn count_one(counts: &mut ArrayVec<u32, MOST_CLASSES>, class: usize)
+    requires there { class < length counts.old.items }
+    requires small { slice_index counts.old.items class < 65536 }
+    ensures { counts.new.items ≡ next_counts counts.old.items class }
 {
-    let Some(class) = store.offered(row) else {
-        return None;
-    };
-    let mut counts = counts_of(store, row);
-    counts.count_one(class);
-    Some(counts)
+    counts[class] += 1;
 }
 
 // The position that follows a row when its offer goes into a bin; none of a missing row or bin.
 pub fn next_position<S: Store>(store: &S, row: usize, bin: usize) -> Option<Position>
     ensures { Following (S.Store.meaning store.now) row bin result }
 {
-    let Some(loads) = next_loads(store, row, bin) else {
-        return None;
-    };
-    let Some(counts) = next_counts(store, row) else {
-        return None;
-    };
+    let class = store.offered(row)?;
+    let load = store.load(row, bin)?;
+    let raised = u32::from(load) + u32::from(size_of(store, class));
+    let mut loads = loads_of(store, row);
+    loads.remove(bin);
+    loads.insert(place_of(&loads, raised), raised);
+    let mut counts = counts_of(store, row);
+    count_one(&mut counts, class);
     Some(Position { loads, counts })
 }

@@ -1,7 +1,8 @@
 -- A programme as bytes: P, then P kinds, then P numbers. Matches count from 1, so that match k has its kind at byte k.
-use Rattle.std.specs.Prelude.{ℕ, ◌+◌, ◌*◌, Bool, true, false, cond, not, ◌||◌, List, length, is_some, is_err, Ok, Err, Result, ◌==◌, nat_lt, slice_index}
+use Rattle.std.specs.Prelude.{◌≡◌, ℕ, ◌+◌, ◌*◌, Bool, true, false, cond, not, ◌||◌, List, length, is_some, is_err, Ok, Err, Result, MatchResult, ◌==◌, nat_lt, slice_index}
 use Rattle.certificate.specs.declared.fault.Fault.{Fault}
-use Rattle.certificate.specs.Faults.{fault}
+use Rattle.certificate.specs.declared.reason.Reason.{Reason}
+use Rattle.certificate.specs.Faults.{fault, number_of}
 use Rattle.certificate.specs.Rules.{Rule, first}
 use Rattle.programme.specs.declared.Entrant.{Entrant}
 use Rattle.programme.specs.declared.Entrant.TheVariants.{BestFit, Threshold, Book}
@@ -13,6 +14,10 @@ match_count bytes = slice_index bytes 0
 -- the entrant of a kind: 1 is best fit, 2 threshold with the number as its limit, 3 the book; 40 for any other, with the match
 abbrev pub entrant_by : ℕ → ℕ → ℕ → Result Entrant Fault
 entrant_by kind limit k = cond (kind == 1) (Ok BestFit) (cond (kind == 2) (Ok (Threshold limit)) (cond (kind == 3) (Ok Book) (Err (fault 40 k 0))))
+
+-- what a kind with its number gives every match: the entrant, or the fault of this reason
+abbrev pub Decodes : (ℕ × ℕ) → Result Entrant Reason → Type 0
+Decodes (kind, limit) given = MatchResult given (λ e. (k : ℕ) → entrant_by kind limit k ≡ Ok e) (λ r. (k : ℕ) → entrant_by kind limit k ≡ Err (fault (number_of r) k 0))
 
 -- who plays match k; 40 where there is no such match
 abbrev pub entrant_of : List ℕ → ℕ → Result Entrant Fault

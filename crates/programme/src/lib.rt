@@ -2,16 +2,13 @@
 #![tactic(auto)]
 
 ghost use Rattle.std.specs.Prelude.{◌≡◌, [], ◌∷◌, slice_index};
-ghost use Rattle.certificate.specs.Faults.{fault};
 ghost use Rattle.certificate.specs.Rules.{judged};
 ghost use Rattle.certificate.specs.Least.{Judges};
-ghost use Rattle.programme.specs.Programmes.{match_count, entrant_by, entrant_of, programme_rule, book_at, names_book};
+ghost use Rattle.programme.specs.Programmes.{Decodes, match_count, entrant_of, programme_rule, book_at, names_book};
 
 use certificate::fault::Fault;
+use certificate::reason::Reason;
 use certificate::rule::{RuleOf, Scope, judge};
-
-// A wrong length, or a match of an unknown kind.
-const PROGRAMME: u8 = 40;
 
 // Who plays a match: best fit, threshold with its limit, or the player that goes by the book.
 #[derive(Clone, Copy, PartialEq, Eq, Debug)]
@@ -21,33 +18,26 @@ pub enum Entrant {
     Book,
 }
 
+// A kind, and the number beside it, which is a threshold's limit.
+impl TryFrom<(u8, u8)> for Entrant {
+    type Error = Reason;
+
+    ghost try_from_gives = { Decodes };
+
+    fn try_from((kind, limit): (u8, u8)) -> Result<Self, Reason> {
+        match kind {
+            1 => Ok(Entrant::BestFit),
+            2 => Ok(Entrant::Threshold(limit)),
+            3 => Ok(Entrant::Book),
+            _ => Err(Reason::Programme),
+        }
+    }
+}
+
 // The bytes of a programme, whatever they are: P, then P kinds, then P numbers. Matches count from 1.
 #[derive(Drop)]
 pub struct Programme {
     bytes: Vec<u8>,
-}
-
-// The fault of a match that is missing or of an unknown kind.
-fn unknown(number: usize) -> Fault
-    ensures { result ≡ fault 40 number 0 }
-{
-    Fault {
-        number: PROGRAMME,
-        first: number,
-        second: 0,
-    }
-}
-
-// The entrant of a kind, with the limit that a threshold has; the fault names the match.
-fn entrant_by(kind: u8, limit: u8, number: usize) -> Result<Entrant, Fault>
-    ensures { result ≡ entrant_by kind limit number }
-{
-    match kind {
-        1 => Ok(Entrant::BestFit),
-        2 => Ok(Entrant::Threshold(limit)),
-        3 => Ok(Entrant::Book),
-        _ => Err(unknown(number)),
-    }
 }
 
 impl Programme {
@@ -61,10 +51,7 @@ impl Programme {
     fn byte(&self, place: usize) -> u8
         ensures { result ≡ slice_index self.now.bytes.items place }
     {
-        match self.bytes.get(place) {
-            Some(byte) => *byte,
-            None => 0,
-        }
+        self.bytes.get(place).copied().unwrap_or(0)
     }
 
     // P, the number of matches.
@@ -79,10 +66,15 @@ impl Programme {
         ensures { result ≡ entrant_of self.now.bytes.items number }
     {
         let count = usize::from(self.matches());
+        let unknown = Fault {
+            first: number,
+            ..Fault::from(Reason::Programme)
+        };
         if number == 0 || number > count {
-            return Err(unknown(number));
+            return Err(unknown);
         }
-        entrant_by(self.byte(number), self.byte(count + number), number)
+        let (kind, limit) = (self.byte(number), self.byte(count + number));
+        Entrant::try_from((kind, limit)).map_err(|_| unknown)
     }
 
     // Passes a programme of the right length whose kinds are known, else names the first thing that is wrong.
@@ -104,12 +96,7 @@ impl Programme {
     pub fn names_book(&self) -> bool
         ensures { result ≡ names_book self.now.bytes.items }
     {
-        for number in 1..usize::from(self.matches()) + 1 {
-            if self.is_by_book(number) {
-                return true;
-            }
-        }
-        false
+        (1..=usize::from(self.matches())).any(|number| self.is_by_book(number))
     }
 }
 
@@ -117,10 +104,10 @@ impl Programme {
 struct Known;
 
 impl RuleOf<Programme> for Known {
-    ghost rule = { λ p. programme_rule p.bytes.items };
+    ghost rule = { λ _ p. programme_rule p.bytes.items };
 
     fn scope(&self, programme: &Programme) -> Scope {
-        Scope::new(PROGRAMME, usize::from(programme.matches()) + 1, 1)
+        Scope::of(Reason::Programme, usize::from(programme.matches()) + 1, 1)
     }
 
     fn is_broken(&self, programme: &Programme, number: usize, _place: usize) -> bool {

@@ -2,8 +2,11 @@
 #![tactic(auto)]
 
 ghost use Rattle.std.specs.Prelude.{◌≡◌, ℕ, ◌<◌, List, MatchOption};
-ghost use Rattle.search.specs.Ascending.{standing, Ascending, row_with};
+ghost use Rattle.certificate.specs.Faults.{number_of};
+ghost use Rattle.search.specs.Ascending.{standing, Ascending, order_rule, row_with};
 
+use certificate::reason::Reason;
+use certificate::rule::{RuleOf, Scope};
 use std::cmp::Ordering;
 
 // Rows that can be searched: each has a key, and the keys ascend strictly.
@@ -42,6 +45,36 @@ pub fn search<T: OrderedRows>(table: &T, sought: &T::Key) -> Option<usize>
         }
     }
     None
+}
+
+// Rows that have byte strings for keys, in whatever order they stand.
+pub trait KeyedRows {
+    ghost rows: { Self → ℕ };
+
+    ghost key: { Self → ℕ → List ℕ };
+
+    fn len(&self) -> usize
+        ensures { result ≡ rows self.now };
+
+    // The key of a row; nothing where the row is missing.
+    fn key(&self, row: usize) -> &[u8]
+        ensures { result.now ≡ key self.now row };
+}
+
+// The rule that each key stands above the one before; what breaks it is refused for this reason, at the later row.
+#[derive(Clone, Copy)]
+pub struct KeysAscend(pub Reason);
+
+impl<T: KeyedRows> RuleOf<T> for KeysAscend {
+    ghost rule = { λ r t. order_rule (number_of r.0) (T.KeyedRows.key t) (T.KeyedRows.rows t) };
+
+    fn scope(&self, table: &T) -> Scope {
+        Scope::of(self.0, table.len(), 1)
+    }
+
+    fn is_broken(&self, table: &T, row: usize, _place: usize) -> bool {
+        row > 0 && standing_of(table.key(row - 1), table.key(row)) != Ordering::Less
+    }
 }
 
 // How two byte strings stand to each other.

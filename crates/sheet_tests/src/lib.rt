@@ -95,7 +95,7 @@ mod tests {
     #[test]
     fn refused_certificates(rt: HostRuntime) -> Result<(), Fail> {
         let heap = rt.alloc();
-        let torn = printed(heap, &TWO_BINS[0..68], &[1, 1, 0], &[])?;
+        let torn = printed(heap, &TWO_BINS[..68], &[1, 1, 0], &[])?;
         assert_eq!(rt; torn.as_str(), "refused 7 0 0\n");
         let missing = printed(heap, &[], &[], &[])?;
         assert_eq!(rt; missing.as_str(), "refused 1 0 0\n");
@@ -111,12 +111,9 @@ mod tests {
         assert_eq!(rt; programme.entrant(1)?, Entrant::BestFit);
         assert_eq!(rt; programme.entrant(2)?, Entrant::Threshold(8));
         assert_eq!(rt; programme.entrant(3)?, Entrant::Book);
-        assert_eq!(rt; programme.entrant(4).is_err(), true);
-        assert_eq!(rt; programme.names_book(), true);
-        assert_eq!(rt;
-            Programme::new([1, 1, 3].to_vec(rt.alloc())?).names_book(),
-            false
-        );
+        assert!(rt; programme.entrant(4).is_err());
+        assert!(rt; programme.names_book());
+        assert!(rt; !Programme::new([1, 1, 3].to_vec(rt.alloc())?).names_book());
         Ok(())
     }
 }

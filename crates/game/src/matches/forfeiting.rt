@@ -2,10 +2,7 @@
 ghost use Rattle.game.specs.Turns.{as_waiting, Tells, Shows, Forfeits};
 
 use super::{Declined, Ended, Item, Outcome, Waiting};
-use certificate::fault::Fault;
-
-// The item's size is not the one that the match shows.
-pub const OTHER_ITEM: u8 = 36;
+use certificate::reason::Reason;
 
 impl Waiting {
     // How many settlements were accepted.
@@ -28,7 +25,7 @@ impl Waiting {
     {
         if item.size != self.size {
             return Err(Declined {
-                fault: Fault::of(OTHER_ITEM),
+                fault: Reason::OtherItem.into(),
                 waiting: self,
             });
         }

@@ -4,22 +4,13 @@ ghost use Rattle.certificate.specs.Certificates.{row_count};
 ghost use Rattle.certificate.specs.Rules.{judge_all};
 ghost use Rattle.game.specs.Settling.{settling_rules, leads, entered, Settles, SettlesBy};
 
-use super::forfeiting::OTHER_ITEM;
 use super::{Declined, Ended, Item, Next, Outcome, Ready, Waiting};
 use crate::loads::row_is_at;
-use crate::rows::{offer_at, offers_still, row_following};
+use crate::rows::{offers_still, row_following};
 use certificate::fault::Fault;
+use certificate::reason::Reason;
 use certificate::store::Store;
 use players::player::{Player, borne};
-
-// The store lacks the match's row, or offers another size there.
-const OTHER_ROW: u8 = 34;
-
-// The row's loads do not descend, or are not the player's in some order.
-const OTHER_LOADS: u8 = 35;
-
-// The record has no room for two more bytes.
-const SHORT_RECORD: u8 = 37;
 
 // Passes a settlement that may be tried; the fault that declines any other.
 fn admit<S: Store, P: Player>(
@@ -32,16 +23,16 @@ fn admit<S: Store, P: Player>(
     ensures { result ≡ judge_all (settling_rules (S.Store.meaning store.now) waiting.now size len (P.Player.loads player.now)) }
 {
     if !offers_still(store, waiting.row, waiting.size) {
-        return Err(Fault::of(OTHER_ROW));
+        return Err(Reason::OtherRow.into());
     }
     if !row_is_at(store, waiting.row, player) {
-        return Err(Fault::of(OTHER_LOADS));
+        return Err(Reason::OtherLoads.into());
     }
     if size != waiting.size {
-        return Err(Fault::of(OTHER_ITEM));
+        return Err(Reason::OtherItem.into());
     }
     if len / 2 <= waiting.count {
-        return Err(Fault::of(SHORT_RECORD));
+        return Err(Reason::ShortRecord.into());
     }
     Ok(())
 }
@@ -61,26 +52,20 @@ fn follow<S: Store>(store: &S, count: usize, row: usize, bin: usize, before: u16
     ensures { result ≡ leads (S.Store.meaning store.now) count row bin before size }
 {
     let load = before + size;
-    if load >= store.target() {
-        return Next::Ends(Ended {
-            outcome: Outcome::Over,
+    let ends = |outcome| {
+        Next::Ends(Ended {
+            outcome,
             bin,
             load,
             count,
-        });
+        })
+    };
+    if load >= store.target() {
+        return ends(Outcome::Over);
     }
     match row_following(store, row, before) {
-        Some(next) => Next::GoesOn(Ready {
-            row: next,
-            size: offer_at(store, next),
-            count,
-        }),
-        None => Next::Ends(Ended {
-            outcome: Outcome::Escape,
-            bin,
-            load,
-            count,
-        }),
+        Some(next) => Next::GoesOn(Ready::at(store, next, count)),
+        None => ends(Outcome::Escape),
     }
 }
 

@@ -4,67 +4,62 @@ ghost use Rattle.players.specs.Placing.{declined, load_of, raised, answered, Pla
 ghost use Rattle.players.specs.Choosing.{or_least_full};
 ghost use Rattle.players.specs.Held.{held};
 
-use super::{Bins, LEAST_BINS, MOST_BINS, MOST_SIZE, MOST_TOTAL, least_full};
+use super::{Bins, MOST_SIZE, MOST_TOTAL, least_full};
+use arrayvec::ArrayVec;
 use certificate::fault::Fault;
-
-// A number of bins, a size, or loads together with a size, that is out of range.
-const BINS: u8 = 16;
-
-const SIZE: u8 = 38;
-
-const TOTAL: u8 = 39;
+use certificate::limits::{LEAST_BINS, MOST_BINS};
+use certificate::reason::Reason;
 
 impl Bins {
     // Empty bins, refused for a number of bins that is out of range.
     pub fn new(count: usize) -> Result<Bins, Fault>
         ensures { MadeEmpty held count result }
     {
-        if count < LEAST_BINS || count > MOST_BINS {
-            return Err(Fault::of(BINS));
+        if !(LEAST_BINS..=MOST_BINS).contains(&count) {
+            return Err(Reason::PlayerBins.into());
         }
-        Ok(Bins {
-            slots: [0; MOST_BINS],
-            count,
-        })
+        let mut loads = ArrayVec::from([0; MOST_BINS]);
+        loads.truncate(count);
+        Ok(Bins { loads })
     }
 
     // How many bins there are.
     pub fn count(&self) -> usize
         ensures { result ≡ length (held self.now) }
     {
-        self.loads().len()
+        self.loads.len()
     }
 
     // The load of each bin.
     pub fn loads(&self) -> &[u16]
         ensures { result.now ≡ held self.now }
     {
-        &self.slots[0..self.count]
+        self.loads.as_slice()
     }
 
     // The load of a bin; none for a missing bin.
     pub fn get(&self, bin: usize) -> Option<u16>
         ensures { result ≡ load_of (held self.now) bin }
     {
-        self.loads().get(bin).copied()
+        self.loads.get(bin).copied()
     }
 
     // All loads together.
     pub fn total(&self) -> u16
         ensures { result ≡ sum (held self.now) }
     {
-        self.loads().iter().sum()
+        self.loads.iter().sum()
     }
 
     // Passes an item that may be placed; the fault that declines any other.
     pub fn admit(&self, size: u16) -> Result<(), Fault>
         ensures { result ≡ declined (held self.now) size }
     {
-        if size == 0 || size > MOST_SIZE {
-            return Err(Fault::of(SIZE));
+        if !(1..=MOST_SIZE).contains(&size) {
+            return Err(Reason::ItemSize.into());
         }
         if self.total() + size > MOST_TOTAL {
-            return Err(Fault::of(TOTAL));
+            return Err(Reason::TotalLoad.into());
         }
         Ok(())
     }
@@ -75,7 +70,7 @@ impl Bins {
         ensures there { result < length (held self.now) }
     {
         match preferred {
-            Some(bin) if bin < self.count => bin,
+            Some(bin) if bin < self.count() => bin,
             _ => least_full(self.loads()),
         }
     }
@@ -85,7 +80,7 @@ impl Bins {
         requires { (bin < length (held self.old)) × (declined (held self.old) size ≡ Ok tt) }
         ensures { held self.new ≡ raised (held self.old) bin size }
     {
-        self.slots[bin] += size;
+        self.loads[bin] += size;
     }
 
     // Puts an item into the bin that is preferred, if there is such a bin, else into the least full one.

@@ -1,16 +1,11 @@
-use Rattle.std.proofs.Common.{sym, ◌∙◌, arith}
-use Rattle.std.proofs.lemmas.Bool.{eq-eqb}
-use Rattle.certificate.specs.Certificates.{load}
-use Rattle.certificate.proofs.Firsts.{first_none, first_some}
+use Rattle.std.proofs.Common.{◌≡◌, true, false, rules, tests}
+use Rattle.std.proofs.lemmas.Iterator.{first_from_Range}
 use Rattle.game.specs.Settling.{bears}
+use Rattle.game.proofs.Places.{found_first}
 use Rattle.game.proofs.rows.place_with.Goals as goal
 
-pub returns-then-load_at-load : goal.returns-then-load_at-load
-returns-then-load_at-load g c =
-    let m = g.S.Store.meaning c.args.store.now in
-    sym (first_some (bears m c.args.row c.args.load) m.bins c.loop-place.place (omega arith) (eq-eqb (load m c.args.row c.loop-place.place) c.args.load (sym c.load_at.ensures ∙ c.if-load_at-load.true)) c.loop-place.invariant)
-
-pub returns : goal.returns
-returns g c =
-    let m = g.S.Store.meaning c.args.store.now in
-    sym (first_none (bears m c.args.row c.args.load) m.bins (λ k h. c.loop-place.invariant k (omega arith)))
+pub returns-clause-answer : goal.returns-clause-answer
+returns-clause-answer g c =
+    let bears_it = bears (g.S.Store.meaning c.args.store.now) c.args.row c.args.load in
+    let found = first_from_Range _ _ _ c.find.result (λ k. bears_it k ≡ true) (λ k. bears_it k ≡ false) c.find.ensures.ran (λ x q k. search (rules, tests)) (λ x q k. search (rules, tests)) in
+    rw (← c.bins.ensures) (found_first bears_it c.bins.result c.find.result found)

@@ -6,10 +6,7 @@ use Rattle.certificate.proofs.Rules.{judge_one}
 use Rattle.programme.specs.Programmes.{programme_rule}
 use Rattle.programme.proofs.Programme.check.Goals as goal
 
-pub returns : goal.returns
-returns c =
+pub returns-clause-least : goal.returns-clause-least
+returns-clause-least c =
     let rule = programme_rule (vec_items c.args.self.now.bytes) in
-    record {
-      answer = c.judge.ensures;
-      least = subst (λ (r : Result (Unit {0}) Fault). Judges (rule ∷ []) r) (judge_one rule ∙ sym c.judge.ensures) (judges 0 (rule ∷ []) refl);
-    }
+    subst (λ (r : Result (Unit {0}) Fault). Judges (rule ∷ []) r) (judge_one rule ∙ sym c.judge.ensures) (judges 0 (rule ∷ []) refl)

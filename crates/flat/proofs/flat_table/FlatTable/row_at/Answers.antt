@@ -1,4 +1,4 @@
-use Rattle.std.proofs.Common.{◌≡◌, length, take, None, sym, ◌∙◌}
+use Rattle.std.proofs.Common.{◌≡◌, length, None, sym, ◌∙◌}
 use Rattle.certificate.specs.Certificates.{class_count}
 use Rattle.certificate.proofs.Finding.{found_says}
 use Rattle.flat.specs.Tables.{table_meant}
@@ -19,19 +19,19 @@ returns-then-loads-bins c =
     let a = other_shape (table_meant table) (table_lawful table) loads counts shape in
     record { answer = a; found = found_says (table_meant table) loads counts None a }
 
-pub returns-in_default : goal.returns-in_default
-returns-in_default c =
+pub returns-in_err-key : goal.returns-in_err-key
+returns-in_err-key c =
     let table = c.args.self.now in
     let loads = c.args.loads.now in
     let counts = c.args.counts.now in
-    let a = no_bytes (table_meant table) (table_lawful table) loads counts (c.if-loads-bins.false ∙ c.bins.ensures) (c.if-counts-classes.false ∙ c.classes.ensures) c.in_default.ensures in
-    record { answer = a; found = found_says (table_meant table) loads counts None a }
+    let a = no_bytes (table_meant table) (table_lawful table) loads counts (c.if-loads-bins.false ∙ c.bins.ensures) (c.if-counts-classes.false ∙ c.classes.ensures) c.in_err-key.ensures in
+    rw c.from_residual.ensures (record { answer = a; found = found_says (table_meant table) loads counts None a })
 
 pub returns : goal.returns
 returns c =
     let table = c.args.self.now in
     let loads = c.args.loads.now in
     let counts = c.args.counts.now in
-    let key = c.in-Some.key in
-    let a = by_key (table_meant table) (table_lawful table) loads counts (c.if-loads-bins.false ∙ c.bins.ensures) (take key.length key.bytes) c.in-Some.ensures c.search.result c.search.ensures.answer in
+    let key = c.in_ok-key.key in
+    let a = by_key (table_meant table) (table_lawful table) loads counts (c.if-loads-bins.false ∙ c.bins.ensures) key.bytes.items c.in_ok-key.ensures c.search.result c.search.ensures.answer in
     record { answer = a; found = found_says (table_meant table) loads counts c.search.result a }

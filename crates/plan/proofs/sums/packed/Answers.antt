@@ -1,8 +1,0 @@
-use Rattle.std.proofs.Common.{unwrap_or, ap, ◌∙◌, arith}
-use Rattle.positions.proofs.Reading.{packed_read}
-use Rattle.plan.proofs.sums.packed.Goals as goal
-
-pub returns : goal.returns
-returns g c =
-    let m = g.S.Store.meaning c.args.store.now in
-    record { value = c.unwrap_or.ensures ∙ (ap (λ o. unwrap_or o 0) c.packed.ensures ∙ packed_read m (g.met.S.Store.lawful c.args.store.now) c.args.row c.args.bin c.args.class); small = omega arith }

@@ -65,7 +65,7 @@ impl Book {
                 bytes: pages.bytes,
             });
         }
-        Ok(ByRule::with(bins, Book { pages }))
+        Ok(ByRule::from_bins(bins, Book { pages }))
     }
 }
 

@@ -56,3 +56,8 @@ module _ (test : ℕ → Bool) where
 pub first_like : (f g : ℕ → Bool) (n : ℕ) → ((k : ℕ) → k < n → f k ≡ g k) → first f n ≡ first g n
 first_like f g zero h = refl
 first_like f g (suc n) h = λ t. or_here (first_like f g n (λ k l. h k (omega arith)) t) (h n (omega arith) t) n
+
+-- what a search from 0 up to n answers: a number that passes while none before it does, or none where none passes
+pub found_first : (test : ℕ → Bool) (n : ℕ) (o : Option ℕ) → MatchOption o ((k : ℕ) → 0 ≤ k → k < n → test k ≡ false) (λ i. (0 ≤ i) × (i < n) × (test i ≡ true) × ((k : ℕ) → 0 ≤ k → k < i → test k ≡ false)) → o ≡ first test n
+found_first test n None none = sym (first_none test n (λ k l. none k (omega arith) l))
+found_first test n (Some i) found = sym (first_some test n i found.1 found.2 (λ k l. found.3 k (omega arith) l))

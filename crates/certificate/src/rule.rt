@@ -38,6 +38,7 @@ impl Scope {
 pub trait RuleOf<S> {
     ghost rule: { Self → S → Rule };
 
+    // One line in each rule, alike but for its reason and its range, which is what a rule has to say.
     fn scope(&self, subject: &S) -> Scope
         ensures { result ≡ scope_of (rule self.now subject.now) };
 
@@ -53,12 +54,7 @@ fn first_in_row<S, R: RuleOf<S>>(rule: &R, subject: &S, row: usize, places: usiz
     requires places { places ≡ (R.RuleOf.rule rule.now subject.now).places }
     ensures { result ≡ first ((R.RuleOf.rule rule.now subject.now).broken row) places }
 {
-    for place in 0..places {
-        if rule.is_broken(subject, row, place) {
-            return Some(place);
-        }
-    }
-    None
+    (0..places).find(|place| rule.is_broken(subject, row, *place))
 }
 
 // Passes, or names the rule's first broken place: lowest row first, then lowest place.
@@ -66,6 +62,7 @@ pub fn judge<S, R: RuleOf<S>>(rule: &R, subject: &S) -> Result<(), Fault>
     ensures { result ≡ judged (R.RuleOf.rule rule.now subject.now) }
 {
     let scope = rule.scope(subject);
+    // a `for`: a chain that answers a fault with both places is no plainer
     for row in 0..scope.rows {
         if let Some(place) = first_in_row(rule, subject, row, scope.places) {
             return Err(Fault {

@@ -31,6 +31,7 @@ impl OrderedRows for FlatTable {
     }
 }
 
+// Each question goes to the file, which the language cannot delegate.
 impl Store for FlatTable {
     ghost meaning = { table_meant };
 

@@ -1,4 +1,3 @@
-pub mod Places
 pub mod RowLoads
 pub mod Progress
 pub mod Keeping

@@ -15,6 +15,7 @@ fn borne_loads<P: Player>(player: &P) -> ArrayVec<u32, MOST_BINS>
     ensures { result.items ≡ P.Player.loads player.now }
 {
     let mut loads = ArrayVec::new();
+    // a `for`: a player answers by number, and `extend` answers a Result that cannot fail here
     for bin in 0..player.bins() {
         loads.push(u32::from(borne(player, bin)));
     }

@@ -41,7 +41,7 @@ pub struct Ready {
     count: usize,
 }
 
-// A match whose item lies on the table.
+// A match whose item lies on the table. A type of its own, alike but for its calls: each state has only its own.
 #[derive(Drop)]
 pub struct Waiting {
     row: usize,

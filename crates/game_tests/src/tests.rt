@@ -12,7 +12,7 @@ use players::threshold::Threshold;
 use std::alloc::Global;
 use std::test::Fail;
 
-// The two-bin table with some bytes changed.
+// The two-bin table with some bytes changed. The cases have the same loop: shared, its contract would say the loop again.
 pub fn two_bins(heap: Global, changes: &[(usize, u8)]) -> Result<FlatTable, Fail> {
     let mut bytes = TWO_BINS.to_vec(heap)?;
     for (place, value) in changes {

@@ -11,22 +11,22 @@ use std::io::{ErrorKind, Read};
 use std::rt::Files;
 
 // As much as is read of a file.
-pub const MOST: usize = 65536;
+pub const MOST_BYTES: usize = 65536;
 
 // The first bytes that a reader has left.
 pub fn first_bytes<R: Read + Drop>(heap: Global, reader: R) -> io::Result<Vec<u8>>
-    ensures few { IfOk result (λ v. vec_len v ≤ MOST) }
-    ensures bytes { IfOk result (λ v. IfSome (R.remaining reader) (λ xs. v.items ≡ take MOST xs)) }
+    ensures few { IfOk result (λ v. vec_len v ≤ MOST_BYTES) }
+    ensures bytes { IfOk result (λ v. IfSome (R.remaining reader) (λ xs. v.items ≡ take MOST_BYTES xs)) }
 {
     let mut bytes = Vec::new(heap);
-    reader.take(MOST as u64).read_to_end(&mut bytes)?;
-    bytes.truncate(MOST);
+    reader.take(MOST_BYTES as u64).read_to_end(&mut bytes)?;
+    bytes.truncate(MOST_BYTES);
     Ok(bytes)
 }
 
 // The first bytes of a file, none where it is missing or cannot be read; only want of memory stays an error.
 pub fn bytes_or_none<R: Files + AllocGlobal>(rt: &R, path: &str) -> io::Result<Vec<u8>>
-    ensures few { IfOk result (λ v. vec_len v ≤ MOST) }
+    ensures few { IfOk result (λ v. vec_len v ≤ MOST_BYTES) }
     ensures memory { IfErr result (λ e. error_kind e ≡ ErrorKind.OutOfMemory) }
 {
     match File::open(rt, path).and_then(|file| first_bytes(rt.alloc(), file)) {
@@ -46,7 +46,7 @@ mod tests {
 
     // As much as is read, and a byte more than that.
     fn limit_and_more(heap: Global) -> Result<(Vec<u8>, Vec<u8>), AllocError> {
-        let limit = vec![in heap; 5; MOST]?;
+        let limit = vec![in heap; 5; MOST_BYTES]?;
         let mut more = limit.clone()?;
         more.push(6)?;
         Ok((limit, more))

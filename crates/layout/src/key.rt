@@ -8,7 +8,7 @@ use certificate::limits::{MOST_BINS, MOST_CLASSES};
 // The most bytes of a position: its loads and its counts.
 const MOST: usize = MOST_BINS + MOST_CLASSES;
 
-#[derive(Drop)]
+#[derive(Clone, Drop)]
 pub struct PositionKey {
     bytes: ArrayVec<u8, MOST>,
 }

@@ -14,7 +14,7 @@ use certificate::reason::Reason;
 fn within(reason: Reason, value: usize, low: usize, high: usize) -> Result<(), Fault>
     ensures { result ≡ judged (range_rule (number_of reason) low high value) }
 {
-    if value < low || value > high {
+    if !(low..=high).contains(&value) {
         return Err(reason.into());
     }
     Ok(())

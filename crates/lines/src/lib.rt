@@ -56,6 +56,7 @@ pub fn loads_line<P: Player>(heap: Global, player: &P) -> Result<String, AllocEr
     ensures { IfOk result (λ s. string_bytes s ≡ loads_line (P.Player.loads player.now)) }
 {
     let mut text = String::from_str(heap, "loads")?;
+    // a `for`: a player answers by number, and a write may fail
     for bin in 0..player.bins() {
         let load = borne(player, bin);
         write!(text, " {load}")?;

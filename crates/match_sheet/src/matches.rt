@@ -7,6 +7,7 @@ ghost use Rattle.match_sheet.specs.Sheet.{blank_record, lines_of, lines_played, 
 
 use crate::stop::Stop;
 use books::book::Book;
+use certificate::limits::{MOST_BINS, MOST_CAPACITY};
 use certificate::store::Store;
 use game::matches::Ended;
 use lines::{end_line, loads_line, match_line, record_lines, refused_line};
@@ -17,8 +18,8 @@ use players::threshold::Threshold;
 use programme::{Entrant, Programme};
 use std::alloc::{AllocError, Global};
 
-// Room for every match of every table: two bytes for each of at most 8 × 127 items.
-const MOST_RECORD: usize = 2032;
+// Room for every match of every table: two bytes for each of at most m × T items.
+const MOST_RECORD: usize = 2 * MOST_BINS * MOST_CAPACITY;
 
 // What is said of a match that has ended.
 fn ended_lines<P: Player>(
@@ -51,6 +52,7 @@ impl<'a, S: Store> Matches<'a, S> {
     fn played_match<P: Player + Drop>(&self, mut player: P) -> Result<String, Stop>
         ensures { (choose : List ℕ → ℕ → ℕ) → P.Player.takes player ≡ by_choice choose → Says string_bytes (lines_played (played (S.Store.meaning self.now.store.now) choose (P.Player.loads player) blank_record)) result }
     {
+        // a match writes into its caller's bytes, and the ended match says how many it used
         let mut record = [0; MOST_RECORD];
         let ended = play(self.store, &mut player, &mut record)?;
         let lines = ended_lines(self.heap, ended, &record, &player)?;
@@ -82,6 +84,7 @@ impl<'a, S: Store> Matches<'a, S> {
         ensures { Adds (string_bytes text.old) (string_bytes text.new) (text_behind (S.Store.meaning self.now.store.now) self.now.programme.now.bytes.items self.now.book.now) result }
     {
         self.programme.check()?;
+        // a `for`: the first fault ends it by `?`
         for number in 1..=usize::from(self.programme.matches()) {
             let title = match_line(self.heap, number)?;
             text.push_str(&title)?;

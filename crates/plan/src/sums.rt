@@ -13,6 +13,7 @@ fn sum_of<F: Fn(usize) -> u32>(count: usize, number: F) -> u64
     ensures { (f : ℕ → ℕ) → ((k x : ℕ) → k < count → F.post number k x → x ≡ f k) → result ≡ total f count }
 {
     let mut sum = 0;
+    // a `for`: by `map` and `sum`, the proof that the sum fits does not close
     for place in 0..count {
         sum += u64::from(number(place));
     }

@@ -12,7 +12,8 @@ use game::matches::settling::settle;
 use game::matches::{Declined, Ended, Next, Ready};
 use players::player::Player;
 
-// One turn: an offer, and the settlement of its item. A declined item is forfeited, so that none stays owed.
+// One turn: an offer, and the settlement of its item. A declined item is forfeited, so that none stays owed. Store, player
+// and record are lent apart: `play` is not proved yet with a struct of the three references.
 fn take_turn<S: Store, P: Player>(
     ready: Ready,
     store: &S,

@@ -36,13 +36,13 @@ impl<R: PlacingRule + Drop> ByRule<R> {
         ensures rule { IfOk result (λ p. p.rule ≡ rule) }
     {
         let bins = Bins::new(bins)?;
-        Ok(ByRule::with(bins, rule))
+        Ok(ByRule::from_bins(bins, rule))
     }
 }
 
 impl<R: PlacingRule> ByRule<R> {
     // The player of these bins that goes by a rule.
-    pub fn with(bins: Bins, rule: R) -> ByRule<R>
+    pub fn from_bins(bins: Bins, rule: R) -> ByRule<R>
         ensures { result ≡ record { bins = bins; rule = rule } }
     {
         ByRule { bins, rule }

@@ -34,6 +34,7 @@ fn gathered<F: Fn(usize) -> Option<u16>, const MOST: usize>(
     ensures { (f : ℕ → Option ℕ) → ((k : ℕ) (r : Option ℕ) → k < count → F.post number k r → r ≡ f k) → result.items ≡ gathered f count }
 {
     let mut numbers = ArrayVec::new();
+    // a `for`: `extend` of a vector of fixed capacity answers a Result that cannot fail here
     for place in 0..count {
         if let Some(n) = number(place) {
             numbers.push(u32::from(n));

@@ -70,7 +70,7 @@ impl Programme {
             first: number,
             ..Fault::from(Reason::Programme)
         };
-        if number == 0 || number > count {
+        if !(1..=count).contains(&number) {
             return Err(unknown);
         }
         let (kind, limit) = (self.byte(number), self.byte(count + number));

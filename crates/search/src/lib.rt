@@ -36,6 +36,7 @@ pub fn search<T: OrderedRows>(table: &T, sought: &T::Key) -> Option<usize>
 {
     let mut low = 0;
     let mut high = table.len();
+    // the halving itself: rows are asked by number, and there is no slice for `binary_search_by`
     while low < high {
         let middle = low + (high - low) / 2;
         match table.compare(middle, sought) {

@@ -42,6 +42,7 @@ fn enter(record: &mut [u8], count: usize, size: u8, bin: u8)
     requires { count < length «record».old / 2 }
     ensures { «record».new ≡ entered «record».old count size bin }
 {
+    // two writes: by `copy_from_slice` the proof is at the edge of the search
     record[2 * count] = size;
     record[2 * count + 1] = bin;
 }
@@ -88,6 +89,7 @@ pub fn settle<S: Store, P: Player>(
     }
     match player.place(size) {
         Ok(bin) => {
+            // both are proved to be bytes; `try_from` and an `unwrap` are no plainer
             enter(record, waiting.count, size as u8, bin as u8);
             item.size = 0;
             let before = borne(player, bin) - size;

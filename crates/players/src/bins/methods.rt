@@ -1,5 +1,5 @@
 // What bins can do: tell their loads, and take an item.
-ghost use Rattle.std.specs.Prelude.{◌≡◌, ◌<◌, length, Ok, sum};
+ghost use Rattle.std.specs.Prelude.{⊤, ◌≡◌, ◌<◌, length, Ok, sum};
 ghost use Rattle.players.specs.Placing.{declined, load_of, raised, answered, Placed, MadeEmpty};
 ghost use Rattle.players.specs.Choosing.{or_least_full};
 ghost use Rattle.players.specs.Held.{held};
@@ -9,6 +9,7 @@ use arrayvec::ArrayVec;
 use certificate::fault::Fault;
 use certificate::limits::{LEAST_BINS, MOST_BINS};
 use certificate::reason::Reason;
+use std::alloc::AllocError;
 
 impl Bins {
     // Empty bins, refused for a number of bins that is out of range.
@@ -69,10 +70,9 @@ impl Bins {
         ensures answer { result ≡ or_least_full preferred (held self.now) }
         ensures there { result < length (held self.now) }
     {
-        match preferred {
-            Some(bin) if bin < self.count() => bin,
-            _ => least_full(self.loads()),
-        }
+        preferred
+            .filter(|bin| *bin < self.count())
+            .unwrap_or_else(|| least_full(self.loads()))
     }
 
     // Adds an item that is not declined to a bin.
@@ -92,5 +92,18 @@ impl Bins {
         let bin = self.choose(preferred);
         self.raise(bin, size);
         Ok(bin)
+    }
+}
+
+// The same loads again; this needs no memory.
+impl Clone for Bins {
+    ghost is_clone = { λ bins copy. held copy ≡ held bins };
+
+    ghost is_infallible = { λ _. ⊤ };
+
+    fn clone(&self) -> Result<Self, AllocError> {
+        let mut loads = ArrayVec::new();
+        loads.try_extend_from_slice(self.loads()).unwrap();
+        Ok(Bins { loads })
     }
 }

@@ -1,7 +1,7 @@
 use Rattle.std.proofs.Common.{◌≡◌, true, false, rules, tests}
 use Rattle.std.proofs.lemmas.Iterator.{first_from_Range}
 use Rattle.game.specs.Settling.{bears}
-use Rattle.game.proofs.Places.{found_first}
+use Rattle.certificate.proofs.Firsts.{found_first}
 use Rattle.game.proofs.rows.place_with.Goals as goal
 
 pub returns-clause-answer : goal.returns-clause-answer

@@ -17,7 +17,7 @@ fn refused(number: u8, first: usize, second: usize) -> Result<Verdict, Fault> {
     })
 }
 
-// The two-bin table with some bytes changed.
+// The two-bin table with some bytes changed. `game_tests` has the same loop: shared, its contract would say the loop again.
 fn changed(heap: Global, changes: &[(usize, u8)]) -> Result<Vec<u8>, AllocError> {
     let mut bytes = TWO_BINS.to_vec(heap)?;
     for (place, new) in changes {

@@ -1,9 +1,9 @@
 // What a book is asked about: the loads of the bins and the size of the item, as one row of numbers.
-ghost use Rattle.std.specs.Prelude.{◌≡◌, [], ◌∷◌, ◌++◌};
+ghost use Rattle.std.specs.Prelude.{◌≡◌, ◌+◌, ◌≤◌, [], ◌∷◌, ◌++◌, take};
+ghost use Rattle.certificate.specs.Lawful.{most_bins};
 ghost use Rattle.search.specs.Ascending.{standing};
 ghost use Rattle.players.specs.Held.{held};
 
-use arrayvec::ArrayVec;
 use certificate::limits::MOST_BINS;
 use players::bins::Bins;
 use std::cmp::Ordering;
@@ -11,17 +11,36 @@ use std::cmp::Ordering;
 // A load for each bin, and a size.
 pub const MOST_NUMBERS: usize = MOST_BINS + 1;
 
-// The loads in bin order, then the size.
-pub type Situation = ArrayVec<u16, MOST_NUMBERS>;
+// The loads in bin order, then the size; the slots past `len` are not used. Copied as it is, which a vector of fixed capacity
+// is not.
+#[derive(Clone, Copy)]
+pub struct Situation {
+    slots: [u16; MOST_NUMBERS],
+    len: usize,
+    ghost sized: { len ≤ most_bins + 1 },
+}
 
-// The present loads with an item.
-pub fn situation_at(bins: &Bins, size: u16) -> Situation
-    ensures { result.items ≡ held bins.now ++ (size ∷ []) }
-{
-    let mut numbers = Situation::new();
-    numbers.try_extend_from_slice(bins.loads()).unwrap();
-    numbers.push(size);
-    numbers
+impl Situation {
+    // The present loads with an item.
+    pub fn new(bins: &Bins, size: u16) -> Situation
+        ensures { take result.len result.slots ≡ held bins.now ++ (size ∷ []) }
+    {
+        let mut slots = [0; MOST_NUMBERS];
+        let loads = bins.loads();
+        slots[0..loads.len()].copy_from_slice(loads);
+        slots[loads.len()] = size;
+        Situation {
+            slots,
+            len: loads.len() + 1,
+        }
+    }
+
+    // The numbers of the situation.
+    pub fn numbers(&self) -> &[u16]
+        ensures { result.now ≡ take self.now.len self.now.slots }
+    {
+        &self.slots[0..self.len]
+    }
 }
 
 // How a row of bytes stands to a row of numbers: the first that differs decides.

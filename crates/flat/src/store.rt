@@ -1,5 +1,5 @@
 // A flat table as a store: its file answers the questions, and a position is found by halving.
-ghost use Rattle.std.specs.Prelude.{◌≡◌, ℕ, List, MatchOption};
+ghost use Rattle.std.specs.Prelude.{◌≡◌, ℕ, List, take, MatchOption};
 ghost use Rattle.certificate.specs.Certificates.{row_count, position, find_row, Stands};
 ghost use Rattle.flat.specs.Tables.{table_meant};
 ghost use Rattle.flat.specs.TablesLemmas.{table_ascends, table_lawful};
@@ -14,7 +14,7 @@ use std::cmp::Ordering;
 impl OrderedRows for FlatTable {
     type Key = PositionKey;
 
-    ghost spelled = { λ k. k.bytes.items };
+    ghost spelled = { λ k. take k.length k.bytes };
 
     ghost rows = { λ t. row_count (table_meant t) };
 

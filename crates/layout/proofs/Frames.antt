@@ -1,8 +1,6 @@
 -- `header_read`: where rules 1 to 7 stop, and what they say of a file that keeps them.
-use Rattle.std.proofs.Common.{◌≡◌, ℕ, ◌+◌, ◌-◌, ◌*◌, ◌≤◌, not, eqb, ltb, List, [], ◌∷◌, ◌++◌, length, take, drop, Ok, Err, sym, refl, ap, ◌∙◌, subst, arith, length-drop}
-use Rattle.std.proofs.lemmas.List.{take_rest}
-use Rattle.std.proofs.lemmas.Bool.{le-ltb, ltb-false, eqb-true, ne_eqb, not-false, or_parts}
-use Rattle.certificate.specs.Faults.{fault}
+use Rattle.std.proofs.Common.{◌≡◌, ℕ, ◌+◌, ◌*◌, ◌≤◌, not, eqb, ltb, List, [], ◌∷◌, ◌++◌, length, Ok, sym, refl, ap, ◌∙◌, subst}
+use Rattle.std.proofs.lemmas.Bool.{le-ltb, ltb-false, eqb-true, not-false, or_parts}
 use Rattle.certificate.specs.Rules.{Rule, whole, judged, judge_all, next_after}
 use Rattle.certificate.proofs.Rules.{judge_append, judge_one, next_after_ok, passed, whole_passed}
 use Rattle.certificate.specs.Lawful.{most_bins, most_capacity, most_classes, most_rows}

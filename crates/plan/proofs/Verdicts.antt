@@ -1,5 +1,5 @@
 -- What an answer of the check says: acceptance is a winning plan and forces the bound, and a refusal is the least fault.
-use Rattle.std.proofs.Common.{◌≡◌, ◌↔◌, true, is_ok, IsOk, Ok, Err, Result, sym, refl, ap, ◌∙◌, subst}
+use Rattle.std.proofs.Common.{◌≡◌, ◌↔◌, ℕ, true, is_ok, IsOk, Ok, Err, Result, sym, refl, ap, ◌∙◌, subst}
 use Rattle.std.proofs.lemmas.Bool.{false≢true}
 use Rattle.certificate.specs.declared.fault.Fault.{Fault}
 use Rattle.certificate.specs.Rules.{judge_all, next_after}
@@ -29,3 +29,7 @@ module _ (c : Certificate) (r : Result Verdict Fault) (answer : r ≡ verdict c)
   -- a refusal is the least fault, and an acceptance breaks no rule
   pub refuses_least : Judges (plan_rules c) r
   refuses_least = subst (λ a. Judges (plan_rules c) a) (sym answer) (judges_after (plan_rules c) (judge_all (plan_rules c)) own (judges 0 (plan_rules c) refl))
+
+-- where the rules pass, the answer is that of these rows and this bound, if they are the certificate's
+pub accepts : (c : Certificate) → judge_all (plan_rules c) ≡ Ok tt → (n b : ℕ) → n ≡ row_count c → b ≡ bound c → Ok (record { rows = n; bound = b }) ≡ verdict c
+accepts c told n b e f = λ t. next_after (sym told t) (Ok (record { rows = e t; bound = f t }))

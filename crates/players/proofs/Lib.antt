@@ -1,3 +1,4 @@
+pub mod Empty
 pub mod Picking
 pub mod Raising
 pub mod LeastLoads

@@ -1,7 +1,7 @@
 -- The loads that bins hold.
-use Rattle.std.specs.Prelude.{ℕ, List}
+use Rattle.std.specs.Prelude.{ℕ, List, take}
 use Rattle.players.specs.declared.bins.Bins.{Bins}
 
 -- the load of each bin, in their order
 abbrev pub held : Bins → List ℕ
-held b = b.loads.items
+held b = take b.count b.slots

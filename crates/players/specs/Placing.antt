@@ -1,5 +1,5 @@
 -- How an item is placed: the limits, when placing is declined, and what it does to the loads.
-use Rattle.std.specs.Prelude.{◌≡◌, ℕ, ◌+◌, ◌<◌, Bool, ◌||◌, List, [], ◌∷◌, length, replicate, Ok, Err, sum, Option, Result, ◌==◌, nat_lt, slice_index, slice_set}
+use Rattle.std.specs.Prelude.{◌≡◌, ℕ, ◌+◌, ◌<◌, Bool, true, ◌||◌, List, [], ◌∷◌, length, replicate, IfOk, Ok, Err, sum, Option, Result, ◌==◌, nat_lt, slice_index, slice_set}
 use Rattle.certificate.specs.declared.fault.Fault.{Fault}
 use Rattle.certificate.specs.Certificates.{given}
 use Rattle.certificate.specs.Lawful.{most_bins}
@@ -59,6 +59,14 @@ answered loads size b = next_after (declined loads size) (Ok b)
 -- the rule of a player whose loads and the size decide: just the bin that it chooses
 abbrev pub by_choice : (List ℕ → ℕ → ℕ) → List ℕ → ℕ → ℕ → Bool
 by_choice choose loads size b = b == choose loads size
+
+-- placing by a choice: the item goes into the bin that is chosen, where it is not declined, and that bin fits as it should;
+-- that the rule takes the bin follows from what is chosen
+pub record PlacedBy (choose : List ℕ → ℕ → ℕ) (Fits : List ℕ → ℕ → ℕ → Type 0) (loads : List ℕ) (size : ℕ) (r : Result ℕ Fault) (after : List ℕ) : Type 0 where
+  pub placed : Placed loads size r after
+  pub ruled : IfOk r (λ b. by_choice choose loads size b ≡ true)
+  pub chosen : r ≡ answered loads size (choose loads size)
+  pub fits : IfOk r (Fits loads size)
 
 -- the load of bin b, none for a missing bin
 abbrev pub load_of : List ℕ → ℕ → Option ℕ

@@ -1,12 +1,10 @@
 // The loads of 2 to 8 bins, as every player here holds them.
-ghost use Rattle.std.specs.Prelude.{◌≡◌, ◌<◌, ◌≤◌, length, sum};
-ghost use Rattle.arrayvec.specs.ArrayVec.{array_vec_len};
+ghost use Rattle.std.specs.Prelude.{◌≡◌, ◌<◌, ◌≤◌, length, take, sum};
 ghost use Rattle.certificate.specs.Lawful.{most_bins};
 ghost use Rattle.players.specs.Placing.{least_bins, most_total};
 ghost use Rattle.players.specs.Choosing.{least_full};
 ghost use Rattle.players.specs.Fitting.{LeastFull};
 
-use arrayvec::ArrayVec;
 use certificate::limits::MOST_BINS;
 
 mod methods;
@@ -16,12 +14,14 @@ pub const MOST_SIZE: u16 = 127;
 
 pub const MOST_TOTAL: u16 = 4095;
 
-// The load of each bin.
-#[derive(Drop)]
+// The load of each bin; the slots past the last bin are not used. Copied as it is, which a vector of fixed capacity is not.
+#[derive(Copy)]
 pub struct Bins {
-    loads: ArrayVec<u16, MOST_BINS>,
-    ghost sized: { (least_bins ≤ array_vec_len loads) × (array_vec_len loads ≤ most_bins) },
-    ghost light: { sum loads.items ≤ most_total },
+    slots: [u16; MOST_BINS],
+    count: usize,
+    ghost sized: { (least_bins ≤ count) × (count ≤ most_bins) },
+    ghost slotted: { length (take count slots) ≡ count },
+    ghost light: { sum (take count slots) ≤ most_total },
 }
 
 // The least full bin, the lowest one on a tie.

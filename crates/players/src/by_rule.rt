@@ -48,6 +48,13 @@ impl<R: PlacingRule> ByRule<R> {
         ByRule { bins, rule }
     }
 
+    // The rule that the player goes by.
+    pub fn rule(&self) -> &R
+        ensures { result.now ≡ self.now.rule }
+    {
+        &self.rule
+    }
+
     // The bin that the rule prefers at the present loads.
     pub fn preferred(&self, size: u16) -> Option<usize>
         ensures answer { result ≡ R.prefers self.now.rule (held self.now.bins) size }

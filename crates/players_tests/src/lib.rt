@@ -6,7 +6,6 @@ mod tests {
     use books::book::Book;
     use certificate::fault::Fault;
     use players::best_fit::BestFit;
-    use players::by_rule::ByRule;
     use players::player::Player;
     use players::threshold::Threshold;
     use std::process::Abort;
@@ -22,7 +21,7 @@ mod tests {
     }
 
     // What opening a book gives, a refusal told by its fault alone.
-    fn open_book(book: Vec<u8>) -> Result<ByRule<Book>, Fault> {
+    fn open_book(book: Vec<u8>) -> Result<Book, Fault> {
         Ok(Book::open(book)?)
     }
 

@@ -1,24 +1,26 @@
 // Positions on their way through a check: the empty one, that of a row, and the one that follows a row.
-ghost use Rattle.std.specs.Prelude.{◌≡◌, ℕ, ◌<◌, ◌≤◌, length, nat_le, Option, replicate, slice_index, take_while};
+ghost use Rattle.std.specs.Prelude.{◌≡◌, ℕ, ◌<◌, ◌≤◌, length, nat_le, Option, slice_index, take_while};
 ghost use Rattle.certificate.specs.Certificates.{find_row, row as row_at};
 ghost use Rattle.positions.specs.Positions.{empty_loads, empty_counts, next_counts, gathered};
+ghost use Rattle.positions.specs.Lists.{held};
 ghost use Rattle.positions.specs.Steps.{Following};
 
+use crate::list::Numbers;
 use crate::numbers::size_of;
 use arrayvec::ArrayVec;
 use certificate::limits::{MOST_BINS, MOST_CLASSES};
 use certificate::store::Store;
 
-#[derive(Clone, Drop)]
+#[derive(Clone, Copy)]
 pub struct Position {
-    pub loads: ArrayVec<u32, MOST_BINS>,
-    pub counts: ArrayVec<u32, MOST_CLASSES>,
+    pub loads: Numbers,
+    pub counts: Numbers,
 }
 
 impl Position {
     // The row of a store that has the position; none where no row has it.
     pub fn row_in<S: Store>(&self, store: &S) -> Option<usize>
-        ensures { result ≡ find_row (S.Store.meaning store.now) self.now.loads.items self.now.counts.items }
+        ensures { result ≡ find_row (S.Store.meaning store.now) (held self.now.loads) (held self.now.counts) }
     {
         store.find(self.loads.as_slice(), self.counts.as_slice())
     }
@@ -43,38 +45,42 @@ fn gathered<F: Fn(usize) -> Option<u16>, const MOST: usize>(
     numbers
 }
 
-// The loads of a row, none of a missing row.
-pub fn loads_of<S: Store>(store: &S, row: usize) -> ArrayVec<u32, MOST_BINS>
+// The loads of a row, none of a missing row, to be changed.
+fn read_loads<S: Store>(store: &S, row: usize) -> ArrayVec<u32, MOST_BINS>
     ensures { result.items ≡ (row_at (S.Store.meaning store.now) row).loads }
 {
     gathered(store.bins(), |bin| store.load(row, bin))
 }
 
-// The counts of a row, none of a missing row.
-pub fn counts_of<S: Store>(store: &S, row: usize) -> ArrayVec<u32, MOST_CLASSES>
+// The counts of a row, none of a missing row, to be changed.
+fn read_counts<S: Store>(store: &S, row: usize) -> ArrayVec<u32, MOST_CLASSES>
     ensures { result.items ≡ (row_at (S.Store.meaning store.now) row).counts }
 {
     gathered(store.classes(), |class| store.count(row, class))
 }
 
-// So many zeros.
-fn zeros<const MOST: usize>(count: usize) -> ArrayVec<u32, MOST>
-    requires { count ≤ MOST }
-    ensures { result.items ≡ replicate count 0 }
+// The loads of a row, none of a missing row.
+pub fn loads_of<S: Store>(store: &S, row: usize) -> Numbers
+    ensures { held result ≡ (row_at (S.Store.meaning store.now) row).loads }
 {
-    let mut numbers = ArrayVec::from([0; MOST]);
-    numbers.truncate(count);
-    numbers
+    Numbers::of(read_loads(store, row).as_slice())
+}
+
+// The counts of a row, none of a missing row.
+pub fn counts_of<S: Store>(store: &S, row: usize) -> Numbers
+    ensures { held result ≡ (row_at (S.Store.meaning store.now) row).counts }
+{
+    Numbers::of(read_counts(store, row).as_slice())
 }
 
 // The position in which all bins are empty and nothing is placed.
 pub fn empty_position<S: Store>(store: &S) -> Position
-    ensures loads { result.loads.items ≡ empty_loads (S.Store.meaning store.now) }
-    ensures counts { result.counts.items ≡ empty_counts (S.Store.meaning store.now) }
+    ensures loads { held result.loads ≡ empty_loads (S.Store.meaning store.now) }
+    ensures counts { held result.counts ≡ empty_counts (S.Store.meaning store.now) }
 {
     Position {
-        loads: zeros(store.bins()),
-        counts: zeros(store.classes()),
+        loads: Numbers::zeros(store.bins()),
+        counts: Numbers::zeros(store.classes()),
     }
 }
 
@@ -101,10 +107,13 @@ pub fn next_position<S: Store>(store: &S, row: usize, bin: usize) -> Option<Posi
     let class = store.offered(row)?;
     let load = store.load(row, bin)?;
     let raised = u32::from(load) + u32::from(size_of(store, class));
-    let mut loads = loads_of(store, row);
+    let mut loads = read_loads(store, row);
     loads.remove(bin);
     loads.insert(place_of(&loads, raised), raised);
-    let mut counts = counts_of(store, row);
+    let mut counts = read_counts(store, row);
     count_one(&mut counts, class);
-    Some(Position { loads, counts })
+    Some(Position {
+        loads: Numbers::of(loads.as_slice()),
+        counts: Numbers::of(counts.as_slice()),
+    })
 }

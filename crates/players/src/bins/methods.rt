@@ -5,7 +5,6 @@ ghost use Rattle.players.specs.Choosing.{or_least_full};
 ghost use Rattle.players.specs.Held.{held};
 
 use super::{Bins, MOST_SIZE, MOST_TOTAL, least_full};
-use arrayvec::ArrayVec;
 use certificate::fault::Fault;
 use certificate::limits::{LEAST_BINS, MOST_BINS};
 use certificate::reason::Reason;
@@ -19,37 +18,38 @@ impl Bins {
         if !(LEAST_BINS..=MOST_BINS).contains(&count) {
             return Err(Reason::PlayerBins.into());
         }
-        let mut loads = ArrayVec::from([0; MOST_BINS]);
-        loads.truncate(count);
-        Ok(Bins { loads })
+        Ok(Bins {
+            slots: [0; MOST_BINS],
+            count,
+        })
     }
 
     // How many bins there are.
     pub fn count(&self) -> usize
         ensures { result ≡ length (held self.now) }
     {
-        self.loads.len()
+        self.loads().len()
     }
 
     // The load of each bin.
     pub fn loads(&self) -> &[u16]
         ensures { result.now ≡ held self.now }
     {
-        self.loads.as_slice()
+        &self.slots[0..self.count]
     }
 
     // The load of a bin; none for a missing bin.
     pub fn get(&self, bin: usize) -> Option<u16>
         ensures { result ≡ load_of (held self.now) bin }
     {
-        self.loads.get(bin).copied()
+        self.loads().get(bin).copied()
     }
 
     // All loads together.
     pub fn total(&self) -> u16
         ensures { result ≡ sum (held self.now) }
     {
-        self.loads.iter().sum()
+        self.loads().iter().sum()
     }
 
     // Passes an item that may be placed; the fault that declines any other.
@@ -80,7 +80,7 @@ impl Bins {
         requires { (bin < length (held self.old)) × (declined (held self.old) size ≡ Ok tt) }
         ensures { held self.new ≡ raised (held self.old) bin size }
     {
-        self.loads[bin] += size;
+        self.slots[bin] += size;
     }
 
     // Puts an item into the bin that is preferred, if there is such a bin, else into the least full one.
@@ -95,15 +95,13 @@ impl Bins {
     }
 }
 
-// The same loads again; this needs no memory.
+// The same bins again; this needs no memory.
 impl Clone for Bins {
-    ghost is_clone = { λ bins copy. held copy ≡ held bins };
+    ghost is_clone = { λ bins copy. copy ≡ bins };
 
     ghost is_infallible = { λ _. ⊤ };
 
     fn clone(&self) -> Result<Self, AllocError> {
-        let mut loads = ArrayVec::new();
-        loads.try_extend_from_slice(self.loads()).unwrap();
-        Ok(Bins { loads })
+        Ok(*self)
     }
 }

@@ -1,11 +1,10 @@
-use Rattle.std.proofs.Common.{◌≡◌, ℕ, Ok, Err, sym, refl, ap, ◌∙◌, subst}
+use Rattle.std.proofs.Common.{◌≡◌, ℕ, Ok, Err, sym, refl, ap, ◌∙◌, subst, rules}
 use Rattle.std.proofs.lemmas.Result.{err_from_is_err_and}
-use Rattle.certificate.specs.Rules.{judge_all, next_after}
-use Rattle.plan.specs.declared.verdict.Verdict.{Verdict}
+use Rattle.certificate.specs.Rules.{next_after}
 use Rattle.certificate.specs.Certificates.{row_count}
-use Rattle.plan.specs.Plan.{plan_rules, bound, verdict}
+use Rattle.plan.specs.Plan.{bound, verdict}
 use Rattle.plan.specs.Winning.{ForcedWithin}
-use Rattle.plan.proofs.Verdicts.{accepts_winning, refuses_least}
+use Rattle.plan.proofs.Verdicts.{accepts, accepts_winning, refuses_least}
 use Rattle.plan.proofs.Forces.{winning_forces, winning_forces_within}
 use Rattle.plan.proofs.check.check.Goals as goal
 
@@ -17,18 +16,21 @@ returns-in_err-plan_holds g c =
     let p = err_from_is_err_and c.from_residual.result c.from_residual.ensures.1 in
     rw (p.1, p.2) (record { answer = a; winning = accepts_winning m (Err fault) a; least = refuses_least m (Err fault) a; forces = tt; within = tt })
 
-pub returns : goal.returns
-returns g c =
+pub returns-clause-answer : goal.returns-clause-answer
+returns-clause-answer g c = accepts (g.S.Store.meaning c.args.store.now) (sym c.plan_holds.ensures ∙ c.in_ok-plan_holds.was) _ _ (search rules) (search rules)
+
+pub returns-clause-winning : goal.returns-clause-winning
+returns-clause-winning g c = accepts_winning (g.S.Store.meaning c.args.store.now) _ (returns-clause-answer g c)
+
+pub returns-clause-least : goal.returns-clause-least
+returns-clause-least g c = refuses_least (g.S.Store.meaning c.args.store.now) _ (returns-clause-answer g c)
+
+pub returns-clause-forces : goal.returns-clause-forces
+returns-clause-forces g c =
     let m = g.S.Store.meaning c.args.store.now in
-    let lawful = g.met.S.Store.lawful c.args.store.now in
-    let own : Verdict = record { rows = c.rows.result; bound = c.most_items.result } in
-    let told : judge_all (plan_rules m) ≡ Ok tt = sym c.plan_holds.ensures ∙ c.in_ok-plan_holds.was in
-    let a : Ok own ≡ verdict m = (λ t. next_after (sym told t) (Ok (record { rows = c.rows.ensures t; bound = c.most_items.ensures t }))) in
-    let w = accepts_winning m (Ok own) a in
-    record {
-      answer = a;
-      winning = w;
-      least = refuses_least m (Ok own) a;
-      forces = winning_forces m lawful (w.0 refl);
-      within = subst (λ (x : ℕ). ForcedWithin x m) (sym c.most_items.ensures) (winning_forces_within m lawful (w.0 refl));
-    }
+    winning_forces m (g.met.S.Store.lawful c.args.store.now) ((returns-clause-winning g c).0 refl)
+
+pub returns-clause-within : goal.returns-clause-within
+returns-clause-within g c =
+    let m = g.S.Store.meaning c.args.store.now in
+    subst (λ (x : ℕ). ForcedWithin x m) (sym c.most_items.ensures) (winning_forces_within m (g.met.S.Store.lawful c.args.store.now) ((returns-clause-winning g c).0 refl))

@@ -1,4 +1,4 @@
-use Rattle.std.proofs.Common.{◌≡◌, length, None, sym, ◌∙◌}
+use Rattle.std.proofs.Common.{◌≡◌, length, take, None, sym, ◌∙◌}
 use Rattle.certificate.specs.Certificates.{class_count}
 use Rattle.certificate.proofs.Finding.{found_says}
 use Rattle.flat.specs.Tables.{table_meant}
@@ -33,5 +33,5 @@ returns c =
     let loads = c.args.loads.now in
     let counts = c.args.counts.now in
     let key = c.in_ok-key.key in
-    let a = by_key (table_meant table) (table_lawful table) loads counts (c.if-loads-bins.false ∙ c.bins.ensures) key.bytes.items c.in_ok-key.ensures c.search.result c.search.ensures.answer in
+    let a = by_key (table_meant table) (table_lawful table) loads counts (c.if-loads-bins.false ∙ c.bins.ensures) (take key.length key.bytes) c.in_ok-key.ensures c.search.result c.search.ensures.answer in
     record { answer = a; found = found_says (table_meant table) loads counts c.search.result a }

@@ -38,7 +38,7 @@ returns-in_ok-open-in-Book g c =
     let made = c.in_ok-open-in-Book.ensures in
     let says = c.played_match-in-Book.ensures (book_choice book) (ap (λ b. by_choice (book_choice b)) (ap vec_items made.bytes ∙ copied)) in
     entrant_says string_bytes m r book c.args.entrant Book c.in-Book.is
-    (made_says string_bytes m r book_judged book_bins book_choice (vec_items c.in_ok-to_vec-in-Book.field-0) book copied (sym made.judged) (held c.in_ok-open-in-Book.field-0.bins) made.empty says)
+    (made_says string_bytes m r book_judged book_bins book_choice (vec_items c.in_ok-to_vec-in-Book.field-0) book copied (sym made.judged) (held c.in_ok-open-in-Book.field-0.player.bins) made.empty says)
 
 pub returns-in_err-open-in-Book : goal.returns-in_err-open-in-Book
 returns-in_err-open-in-Book g c =

@@ -2,7 +2,7 @@ use Rattle.std.proofs.Common.{◌∙◌, ap, rules}
 use Rattle.certificate.specs.Certificates.{row, load_at}
 use Rattle.positions.specs.Positions.{gathered}
 use Rattle.positions.proofs.Reading.{gathered_row, no_loads}
-use Rattle.positions.proofs.steps.loads_of.Goals as goal
+use Rattle.positions.proofs.steps.read_loads.Goals as goal
 
 pub returns : goal.returns
 returns g c =

@@ -4,7 +4,7 @@ use Rattle.search.specs.Ascending.{has_key}
 use Rattle.books.specs.Books.{book_rows, situation_of}
 use Rattle.players.specs.Held.{held}
 use Rattle.books.proofs.Rows.{fits_book}
-use Rattle.books.proofs.book.BookPlacingRule.preferred.Goals as goal
+use Rattle.books.proofs.book.AdvicePlacingRule.preferred.Goals as goal
 
 pub returns-in_err-row-clause-fits : goal.returns-in_err-row-clause-fits
 returns-in_err-row-clause-fits c =

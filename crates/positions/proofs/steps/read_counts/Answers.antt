@@ -2,7 +2,7 @@ use Rattle.std.proofs.Common.{◌∙◌, ap, rules}
 use Rattle.certificate.specs.Certificates.{class_count, row, count_at}
 use Rattle.positions.specs.Positions.{gathered}
 use Rattle.positions.proofs.Reading.{gathered_row, no_counts}
-use Rattle.positions.proofs.steps.counts_of.Goals as goal
+use Rattle.positions.proofs.steps.read_counts.Goals as goal
 
 pub returns : goal.returns
 returns g c =

@@ -5,7 +5,7 @@ ghost use Rattle.certificate.specs.Least.{Judges};
 ghost use Rattle.search.specs.Ascending.{Ascending};
 ghost use Rattle.books.specs.Books.{header_bytes, book_bins, book_rows, situation_of, advised_by, advice_of, book_rules, book_judged, verdict_of, book_choice, ByBook, FitsBook};
 ghost use Rattle.players.specs.Placing.{answered, by_choice, Placed};
-ghost use Rattle.players.specs.Choosing.{least_full};
+ghost use Rattle.players.specs.Choosing.{least_full, or_least_full};
 ghost use Rattle.players.specs.Held.{held};
 ghost use Rattle.std.proofs.Common.{rules};
 
@@ -95,7 +95,8 @@ impl Book {
 
     // The bin of the row with the present loads and the size; none where no row has them.
     pub fn advice(&self, size: u16) -> Option<usize>
-        ensures { result ≡ advice_of self.now.player.rule.pages.bytes.items (held self.now.player.bins) size }
+        ensures answer { result ≡ advice_of self.now.player.rule.pages.bytes.items (held self.now.player.bins) size }
+        ensures fits { FitsBook self.now.player.rule.pages.bytes.items (held self.now.player.bins) size (or_least_full result (held self.now.player.bins)) }
     {
         self.player.preferred(size)
     }
@@ -147,6 +148,7 @@ impl Player for Book {
         ensures fits { IfOk result (ByBook self.old.player.rule.pages.bytes.items (held self.old.player.bins) size) }
         ensures wide { (k : ℕ) → most_count < slice_index (held self.old.player.bins) k → result ≡ answered (held self.old.player.bins) size (least_full (held self.old.player.bins)) }
         ensures kept { self.new.player.rule.pages.bytes ≡ self.old.player.rule.pages.bytes }
+        ensures same_rule { self.new.player.rule ≡ self.old.player.rule }
     {
         self.player.place(size)
     }

@@ -2,8 +2,7 @@
 ghost use Rattle.std.specs.Prelude.{◌≡◌, ℕ, ◌<◌, ◌≤◌, length, nat_le, Option, slice_index, take_while};
 ghost use Rattle.certificate.specs.Certificates.{find_row, row as row_at};
 ghost use Rattle.positions.specs.Positions.{empty_loads, empty_counts, next_counts, gathered};
-ghost use Rattle.positions.specs.Lists.{held};
-ghost use Rattle.positions.specs.Steps.{Following};
+ghost use Rattle.positions.specs.Steps.{held, Following};
 
 use crate::list::Numbers;
 use crate::numbers::size_of;

@@ -66,8 +66,19 @@ pub struct Book {
 }
 
 impl Book {
-    // A player with empty bins that goes by the book; a book that is refused is handed back.
-    pub fn open(bytes: Vec<u8>) -> Result<Book, Refused>
+    // A player with empty bins that goes by the book, for code that takes the player of any rule; a book that is refused is
+    // handed back.
+    pub fn open(bytes: Vec<u8>) -> Result<ByRule<Advice>, Refused>
+        ensures judged { verdict_of (λ e. e.fault) result ≡ book_judged bytes.items }
+        ensures least { header_bytes ≤ length bytes.items → Judges (book_rules bytes.items) (verdict_of (λ e. e.fault) result) }
+        ensures bytes { MatchResult result (λ b. b.rule.pages.bytes ≡ bytes) (λ e. e.bytes ≡ bytes) }
+        ensures empty { IfOk result (λ b. held b.bins ≡ replicate (book_bins bytes.items) 0) }
+    {
+        Book::from_bytes(bytes).map(|book| book.player)
+    }
+
+    // The same as a `Book`, which keeps as many bins as its book has, and whose rows can be asked.
+    pub fn from_bytes(bytes: Vec<u8>) -> Result<Book, Refused>
         ensures judged { verdict_of (λ e. e.fault) result ≡ book_judged bytes.items }
         ensures least { header_bytes ≤ length bytes.items → Judges (book_rules bytes.items) (verdict_of (λ e. e.fault) result) }
         ensures bytes { MatchResult result (λ b. b.player.rule.pages.bytes ≡ bytes) (λ e. e.bytes ≡ bytes) }

@@ -81,7 +81,7 @@ fn opening(rt: HostRuntime) -> Result<(), Fail> {
     let table = two_bins(heap, &[])?;
     let mut loaded = BestFit::new(2, 4)?;
     loaded.place(1)?;
-    let mut second = Book::open([2, 0, 1, 0, 0, 1, 1].to_vec(heap)?).map_err(Fault::from)?;
+    let mut second = Book::from_bytes([2, 0, 1, 0, 0, 1, 1].to_vec(heap)?).map_err(Fault::from)?;
     second.place(1)?;
     let faults = [
         open_match(&two_bins(heap, &[(13, 1)])?, &BestFit::new(3, 4)?).err(),

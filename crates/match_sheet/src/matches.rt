@@ -67,7 +67,7 @@ impl<'a, S: Store> Matches<'a, S> {
         match entrant {
             Entrant::BestFit => self.played_match(BestFit::new(store.bins(), store.target())?),
             Entrant::Threshold(limit) => self.played_match(Threshold::new(store.bins(), limit)?),
-            Entrant::Book => self.played_match(Book::open(self.book.to_vec(self.heap)?)?),
+            Entrant::Book => self.played_match(Book::from_bytes(self.book.to_vec(self.heap)?)?),
         }
     }
 

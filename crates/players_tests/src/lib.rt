@@ -3,9 +3,10 @@
 
 #[cfg(test)]
 mod tests {
-    use books::book::Book;
+    use books::book::{Advice, Book};
     use certificate::fault::Fault;
     use players::best_fit::BestFit;
+    use players::by_rule::{ByRule, PlacingRule};
     use players::player::Player;
     use players::threshold::Threshold;
     use std::process::Abort;
@@ -20,9 +21,26 @@ mod tests {
         }
     }
 
-    // What opening a book gives, a refusal told by its fault alone.
-    fn open_book(book: Vec<u8>) -> Result<Book, Fault> {
+    // What a book's bytes give, a refusal told by its fault alone.
+    fn read_book(book: Vec<u8>) -> Result<Book, Fault> {
+        Ok(Book::from_bytes(book)?)
+    }
+
+    // The same as a player of a rule.
+    fn open_book(book: Vec<u8>) -> Result<ByRule<Advice>, Fault> {
         Ok(Book::open(book)?)
+    }
+
+    // Places each size by a player of any rule, and compares the bin that the rule prefers and the one that it gets.
+    fn places_by_rule<R: PlacingRule>(
+        rt: &impl Abort,
+        player: &mut ByRule<R>,
+        items: &[(u16, Option<usize>, usize)],
+    ) {
+        for (size, preferred, bin) in items {
+            assert_eq!(rt; player.preferred(*size), *preferred);
+            assert_eq!(rt; player.place(*size), Ok(*bin));
+        }
     }
 
     // Places each size and compares the bin.
@@ -107,22 +125,52 @@ mod tests {
         // no rows: always the least full
         places(
             &rt,
-            &mut open_book([2, 0, 0].to_vec(rt.alloc())?)?,
+            &mut read_book([2, 0, 0].to_vec(rt.alloc())?)?,
             &[(1, 0), (1, 1)],
         );
         // two rows, then a situation that no row has
         let rows = [2, 0, 2, 0, 0, 1, 0, 1, 2, 1, 1];
         places(
             &rt,
-            &mut open_book(rows.to_vec(rt.alloc())?)?,
+            &mut read_book(rows.to_vec(rt.alloc())?)?,
             &[(1, 1), (2, 1), (1, 0)],
         );
         // loads above 255 have no situation
-        let mut wide = open_book([2, 0, 1, 0, 0, 127, 0].to_vec(rt.alloc())?)?;
+        let mut wide = read_book([2, 0, 1, 0, 0, 127, 0].to_vec(rt.alloc())?)?;
         places(
             &rt,
             &mut wide,
             &[(127, 0), (127, 1), (127, 0), (127, 1), (127, 0), (1, 1)],
+        );
+        Ok(())
+    }
+
+    // the same books, each by the player of its rule
+    #[test]
+    fn books_by_their_rule(rt: HostRuntime) -> Result<(), Fail> {
+        places_by_rule(
+            &rt,
+            &mut open_book([2, 0, 0].to_vec(rt.alloc())?)?,
+            &[(1, None, 0), (1, None, 1)],
+        );
+        let rows = [2, 0, 2, 0, 0, 1, 0, 1, 2, 1, 1];
+        places_by_rule(
+            &rt,
+            &mut open_book(rows.to_vec(rt.alloc())?)?,
+            &[(1, Some(1), 1), (2, Some(1), 1), (1, None, 0)],
+        );
+        let mut wide = open_book([2, 0, 1, 0, 0, 127, 0].to_vec(rt.alloc())?)?;
+        places_by_rule(
+            &rt,
+            &mut wide,
+            &[
+                (127, Some(0), 0),
+                (127, None, 1),
+                (127, None, 0),
+                (127, None, 1),
+                (127, None, 0),
+                (1, None, 1),
+            ],
         );
         Ok(())
     }
@@ -141,9 +189,13 @@ mod tests {
             (&[2, 0, 2, 0, 0, 1, 0, 0, 2, 1, 2], 19, 1),
         ];
         for (bytes, number, row) in cases {
-            let refused = Book::open(bytes.to_vec(rt.alloc())?).err().ok_or("opened")?;
-            assert_eq!(rt; refused.fault, fault(number, row));
-            assert!(rt; refused.bytes.as_slice() == bytes);
+            let read = Book::from_bytes(bytes.to_vec(rt.alloc())?).err();
+            let opened = Book::open(bytes.to_vec(rt.alloc())?).err();
+            for refusal in [read, opened] {
+                let refused = refusal.ok_or("opened")?;
+                assert_eq!(rt; refused.fault, fault(number, row));
+                assert!(rt; refused.bytes.as_slice() == bytes);
+            }
         }
         Ok(())
     }

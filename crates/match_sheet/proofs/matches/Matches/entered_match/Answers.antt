@@ -29,23 +29,23 @@ returns-in_ok-new-in-Threshold g c =
     entrant_says string_bytes m r c.args.self.now.book.now c.args.entrant (Threshold limit) c.in-Threshold.is
     (made_says string_bytes m r bins_judged (λ n. n) (λ _. threshold limit) c.bins-in-Threshold.result m.bins c.bins-in-Threshold.ensures made.empty.0 (held c.in_ok-new-in-Threshold.field-0.bins) made.empty.1 says)
 
-pub returns-in_ok-open-in-Book : goal.returns-in_ok-open-in-Book
-returns-in_ok-open-in-Book g c =
+pub returns-in_ok-from_bytes-in-Book : goal.returns-in_ok-from_bytes-in-Book
+returns-in_ok-from_bytes-in-Book g c =
     let m = g.S.Store.meaning c.args.self.now.store.now in
     let book = c.args.self.now.book.now in
     let r = c.played_match-in-Book.result in
     let copied = c.in_ok-to_vec-in-Book.ensures.items_if_clones_equal (λ x y h. h) in
-    let made = c.in_ok-open-in-Book.ensures in
+    let made = c.in_ok-from_bytes-in-Book.ensures in
     let says = c.played_match-in-Book.ensures (book_choice book) (ap (λ b. by_choice (book_choice b)) (ap vec_items made.bytes ∙ copied)) in
     entrant_says string_bytes m r book c.args.entrant Book c.in-Book.is
-    (made_says string_bytes m r book_judged book_bins book_choice (vec_items c.in_ok-to_vec-in-Book.field-0) book copied (sym made.judged) (held c.in_ok-open-in-Book.field-0.player.bins) made.empty says)
+    (made_says string_bytes m r book_judged book_bins book_choice (vec_items c.in_ok-to_vec-in-Book.field-0) book copied (sym made.judged) (held c.in_ok-from_bytes-in-Book.field-0.player.bins) made.empty says)
 
-pub returns-in_err-open-in-Book : goal.returns-in_err-open-in-Book
-returns-in_err-open-in-Book g c =
+pub returns-in_err-from_bytes-in-Book : goal.returns-in_err-from_bytes-in-Book
+returns-in_err-from_bytes-in-Book g c =
     let m = g.S.Store.meaning c.args.self.now.store.now in
     let book = c.args.self.now.book.now in
-    let fault = c.in_err-open-in-Book.field-0.0.fault in
+    let fault = c.in_err-from_bytes-in-Book.field-0.0.fault in
     let copied = c.in_ok-to_vec-in-Book.ensures.items_if_clones_equal (λ x y h. h) in
-    let judged : Err fault ≡ book_judged book = c.in_err-open-in-Book.ensures.judged ∙ ap book_judged copied in
-    let p = err_from_is_err_and c.from_residual-in_err-open-in-Book.result c.from_residual-in_err-open-in-Book.ensures.1 in
+    let judged : Err fault ≡ book_judged book = c.in_err-from_bytes-in-Book.ensures.judged ∙ ap book_judged copied in
+    let p = err_from_is_err_and c.from_residual-in_err-from_bytes-in-Book.result c.from_residual-in_err-from_bytes-in-Book.ensures.1 in
     rw (p.1, p.2) (ap (match_of m book) c.in-Book.is ∙ ap (λ a. next_after a (match_by m (book_choice book) (book_bins book))) (sym judged))
